@@ -1,0 +1,5 @@
+pub mod Bytes
+pub mod Fields
+pub mod Reading
+pub mod Offsets
+pub mod Events

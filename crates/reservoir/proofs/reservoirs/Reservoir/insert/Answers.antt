@@ -1,0 +1,10 @@
+use borrow.Author.Needs.{needs}
+use Prim.Native.Nat.{_<_, _≤_}
+use mathlib.Core.Path.{refl}
+use Rattle.reservoir.proofs.OneMore.{inserted}
+use Rattle.reservoir.proofs.reservoirs.Reservoir.insert.Needs as need
+
+pub returns : need.returns
+returns g c = λ seed size rs h.
+    inserted seed size rs (c .args .kept) (c .args .self .now) _ (c .slot-of-slot .result) h (c .if-self-ge-COUNT-LIMIT .left) (search needs)
+    (c .slot-of-slot .ensures .value) refl refl refl (c .place .ensures)

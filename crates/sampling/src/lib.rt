@@ -1,0 +1,47 @@
+// Which record is in which slot: the draws, the slots, and the sample of the records counted so far.
+ghost use mathlib.Core.Path.{_≡_};
+ghost use Prim.Native.Nat.{_<_};
+ghost use Rattle.std.specs.Options.{Cases as BySome};
+ghost use Rattle.sampling.specs.Draws.{drawOf, slotOf};
+ghost use Rattle.sampling.specs.Samples.{SampleLaw};
+use records::RecordKind;
+
+// SplitMix64's increment and multipliers.
+const GAMMA: u64 = 0x9E37_79B9_7F4A_7C15;
+const FIRST_FACTOR: u64 = 0xBF58_476D_1CE4_E5B9;
+const SECOND_FACTOR: u64 = 0x94D0_49BB_1331_11EB;
+
+// Draw k of a seed. Each is worked out from its number, so none has to be drawn before another.
+pub fn draw(seed: u64, k: u64) -> u64
+    ensures { λ r. ⌜ r ≡ drawOf seed k ⌝ }
+{
+    let a = seed.wrapping_add(k.wrapping_mul(GAMMA));
+    let b = (a ^ (a >> 30)).wrapping_mul(FIRST_FACTOR);
+    let c = (b ^ (b >> 27)).wrapping_mul(SECOND_FACTOR);
+    c ^ (c >> 31)
+}
+
+// The slot of record k in a sample of this size, if it has one. Records are numbered from 1.
+pub fn slot_of(seed: u64, size: u16, k: u32) -> Option<u16>
+    ensures value { λ r. ⌜ r ≡ slotOf seed size k ⌝ }
+    ensures bound { λ r. ⌜ BySome r (Unit {0}) (λ i. i < size) ⌝ }
+{
+    if k == 0 {
+        return None;
+    }
+    if k <= size as u32 {
+        return Some((k - 1) as u16);
+    }
+    let remainder = draw(seed, k as u64) % k as u64;
+    if remainder < size as u64 {
+        Some(remainder as u16)
+    } else {
+        None
+    }
+}
+
+// The law of a sample, for records of every kind. The answer is of no use; the promise is.
+pub fn sample_law<K: RecordKind>(seed: u64, size: u16)
+    ensures { λ _. ⌜ SampleLaw K seed size ⌝ }
+{
+}
