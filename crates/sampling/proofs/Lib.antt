@@ -1,2 +1,3 @@
 pub mod SlotLaws
 pub mod SampleLaws
+pub mod ViewLaws

@@ -1,0 +1,4 @@
+mod commands;
+
+pub use commands::Command;
+pub use commands::Scenario;
