@@ -33,7 +33,14 @@ layerText Mirror = codes "mirror"
 layerText Sampler = codes "sampler"
 layerText Record = codes "record"
 
+-- as `5 (no such record)`
+abbrev pub reasonShown : Reason → List ℕ
+reasonShown r = decimal (reasonNumber r) ++ (codes " (" ++ (reasonText r ++ codes ")"))
+
+-- as `4 (record)`
+abbrev pub layerShown : Layer → List ℕ
+layerShown l = decimal (layerNumber l) ++ (codes " (" ++ (layerText l ++ codes ")"))
+
 -- as `refusal 5 (no such record) of layer 4 (record) at place 8`
-abbrev pub faultText : Fault → List ℕ
-faultText f =
-    codes "refusal " ++ (decimal (reasonNumber (f .reason)) ++ (codes " (" ++ (reasonText (f .reason) ++ (codes ") of layer " ++ (decimal (layerNumber (f .layer)) ++ (codes " (" ++ (layerText (f .layer) ++ (codes ") at place " ++ decimal (f .place)))))))))
+abbrev pub faultShown : Fault → List ℕ
+faultShown f = codes "refusal " ++ (reasonShown (f .reason) ++ (codes " of layer " ++ (layerShown (f .layer) ++ (codes " at place " ++ decimal (f .place)))))

@@ -1,6 +1,6 @@
 ghost use mathlib.Core.Path.{_≡_};
 ghost use Rattle.std.specs.declared.option.Option.the-variants.{Some};
-ghost use Rattle.faults.specs.Texts.{reasonText, layerText, faultText};
+ghost use Rattle.faults.specs.Texts.{reasonText, layerText, reasonShown, layerShown, faultShown};
 use crate::faults::Fault;
 use crate::faults::Layer;
 use crate::faults::Reason;
@@ -45,16 +45,36 @@ impl Layer {
     }
 }
 
-// As `refusal 5 (no such record) of layer 4 (record) at place 8`.
-pub impl fmt::Display for Fault as FaultDisplay {
-    ghost shown = { λ f. Some (faultText f) };
+// As `5 (no such record)`.
+pub impl fmt::Display for Reason as ReasonDisplay {
+    ghost shown = { λ r. Some (reasonShown r) };
 
     fn fmt<W: fmt::Write>(&self, f: &mut fmt::Formatter<W>) -> fmt::Result {
-        let number = self.reason.number();
-        let reason = self.reason.text();
-        let from = self.layer.number();
-        let layer = self.layer.text();
+        let number = self.number();
+        let reason = self.text();
+        write!(f, "{number} ({reason})")
+    }
+}
+
+// As `4 (record)`.
+pub impl fmt::Display for Layer as LayerDisplay {
+    ghost shown = { λ l. Some (layerShown l) };
+
+    fn fmt<W: fmt::Write>(&self, f: &mut fmt::Formatter<W>) -> fmt::Result {
+        let number = self.number();
+        let layer = self.text();
+        write!(f, "{number} ({layer})")
+    }
+}
+
+// As `refusal 5 (no such record) of layer 4 (record) at place 8`.
+pub impl fmt::Display for Fault as FaultDisplay {
+    ghost shown = { λ f. Some (faultShown f) };
+
+    fn fmt<W: fmt::Write>(&self, f: &mut fmt::Formatter<W>) -> fmt::Result {
+        let reason = self.reason;
+        let layer = self.layer;
         let place = self.place;
-        write!(f, "refusal {number} ({reason}) of layer {from} ({layer}) at place {place}")
+        write!(f, "refusal {reason} of layer {layer} at place {place}")
     }
 }

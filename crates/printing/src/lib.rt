@@ -2,6 +2,8 @@
 mod lines;
 mod means;
 
+pub use lines::FaultNumbers;
+pub use lines::FaultNumbersDisplay;
 pub use lines::Said;
 pub use lines::SaidDisplay;
 pub use lines::name;

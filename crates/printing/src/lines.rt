@@ -28,9 +28,9 @@ pub fn name(command: Command) -> &'static str
 
 // A record as its three numbers.
 #[derive(Clone, Copy)]
-struct Numbers(Offset);
+struct OffsetNumbers(Offset);
 
-impl fmt::Display for Numbers as NumbersDisplay {
+impl fmt::Display for OffsetNumbers as OffsetNumbersDisplay {
     ghost shown = { λ x. Some (fieldsText (offsetFields (x .0))) };
 
     fn fmt<W: fmt::Write>(&self, f: &mut fmt::Formatter<W>) -> fmt::Result {
@@ -43,9 +43,9 @@ impl fmt::Display for Numbers as NumbersDisplay {
 
 // A refusal as its three numbers.
 #[derive(Clone, Copy)]
-struct Why(Fault);
+pub struct FaultNumbers(pub Fault);
 
-impl fmt::Display for Why as WhyDisplay {
+pub impl fmt::Display for FaultNumbers as FaultNumbersDisplay {
     ghost shown = { λ x. Some (refusalText (x .0)) };
 
     fn fmt<W: fmt::Write>(&self, f: &mut fmt::Formatter<W>) -> fmt::Result {
@@ -67,7 +67,7 @@ impl fmt::Display for Rows<'_> as RowsDisplay {
         let rows = self.0;
         for row in rows {
             let slot = row.slot;
-            let numbers = Numbers(row.offset);
+            let numbers = OffsetNumbers(row.offset);
             write!(f, "slot {slot}: {numbers}\n")?;
         }
         Ok(())
@@ -101,7 +101,10 @@ impl fmt::Display for Whole<'_> as WholeDisplay {
     fn fmt<W: fmt::Write>(&self, f: &mut fmt::Formatter<W>) -> fmt::Result {
         let count = self.0.count;
         let rows = Rows(self.0.rows.as_slice());
-        let over = Over(Mean { sum: self.0.sum, count: self.0.rows.len() as u64 });
+        let over = Over(Mean {
+            sum: self.0.sum,
+            count: self.0.rows.len() as u64,
+        });
         write!(f, "counted {count}\n{rows}{over}")
     }
 }
@@ -122,7 +125,7 @@ pub impl fmt::Display for Said<'_> as SaidDisplay {
             Answer::Inserted(Some(slot)) => write!(f, "{name} ok {slot}"),
             Answer::Inserted(None) => write!(f, "{name} ok none"),
             Answer::Found(offset) => {
-                let numbers = Numbers(*offset);
+                let numbers = OffsetNumbers(*offset);
                 write!(f, "{name} ok {numbers}")
             }
             Answer::Told(report) => {
@@ -130,8 +133,8 @@ pub impl fmt::Display for Said<'_> as SaidDisplay {
                 write!(f, "{whole}")
             }
             Answer::Refused(fault) => {
-                let why = Why(*fault);
-                write!(f, "{name} refused {why}")
+                let numbers = FaultNumbers(*fault);
+                write!(f, "{name} refused {numbers}")
             }
         }
     }

@@ -54,20 +54,20 @@ high-range : (z : ℤ) → isNanoseconds z ≡ true → z ≤ℤ pos 500000000
 high-range z e = grind (arith, tells, ints)
 
 pub a-second : (n : ℕ) → isSecond n ≡ true → (s : Second) × (secondOf s ≡ n)
-a-second n e = (record { value = n; ok = second-range n e }, refl)
+a-second n e = (record { second = n; ok = second-range n e }, refl)
 
 pub a-satellite : (n : ℕ) → isSatellite n ≡ true → (s : Satellite) × (satelliteOf s ≡ n)
-a-satellite n e = (record { value = n; ok = satellite-range n e }, refl)
+a-satellite n e = (record { satellite = n; ok = satellite-range n e }, refl)
 
 pub a-nanoseconds : (z : ℤ) → isNanoseconds z ≡ true → (n : Nanoseconds) × (nanosecondsOf n ≡ z)
-a-nanoseconds z e = (record { value = z; low = low-range z e; high = high-range z e }, refl)
+a-nanoseconds z e = (record { nanoseconds = z; low = low-range z e; high = high-range z e }, refl)
 
 fits-32 : (z : ℤ) → negsuc 499999999 ≤ℤ z → z ≤ℤ pos 500000000 → SFits w32 z
 fits-32 (pos n) l h = record { sfits = omega (arith, ints) }
 fits-32 (negsuc n) l h = record { sfits = omega (arith, ints) }
 
 pub nanoseconds-fit : (n : Nanoseconds) → SFits w32 (nanosecondsOf n)
-nanoseconds-fit n = fits-32 (n .value) (n .low) (n .high)
+nanoseconds-fit n = fits-32 (n .nanoseconds) (n .low) (n .high)
 
 -- what was made of a number in range has that number
 pub made-of : {A : Type 0} (b : Bool) (v x : A) → _≡_ {A = Option A} (Some x) (cond b (Some v) None) → x ≡ v

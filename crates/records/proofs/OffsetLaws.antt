@@ -45,7 +45,7 @@ right r =
     rw (second-back r, nanoseconds-back r, second-in (r .second), satellite-in (r .satellite), nanoseconds-in (r .nanoseconds)) refl
 
 small : (r : Offset) → Small (offsetBytes r)
-small r = let h = r .satellite .ok in 
+small r = let h = r .satellite .ok in
     (omega arith, (omega arith, (omega arith, (omega arith, (omega arith, (omega arith, (omega arith, (omega arith, (omega arith, (omega arith, (omega arith, (omega arith, tt))))))))))))
 
 pub twelve : (r : Offset) → Twelve (offsetBytes r)
@@ -53,7 +53,7 @@ twelve r = record { long = refl; small = λ i h. small-at (offsetBytes r) (small
 
 spelled : (a b c d t x y z e f g h : ℕ) → a < 256 → b < 256 → c < 256 → d < 256 → e < 256 → f < 256 → g < 256 → h < 256 → x + y + z ≡ 0
     → fieldsBytes (a * 16777216 + b * 65536 + c * 256 + d, t, toZ w32 (e * 16777216 + f * 65536 + g * 256 + h))
-      ≡ a ∷ b ∷ c ∷ d ∷ t ∷ x ∷ y ∷ z ∷ e ∷ f ∷ g ∷ h ∷ []
+    ≡ a ∷ b ∷ c ∷ d ∷ t ∷ x ∷ y ∷ z ∷ e ∷ f ∷ g ∷ h ∷ []
 spelled a b c d t x y z e f g h ha hb hc hd he hf hg hh gap =
     let x0 : x ≡ 0 = omega arith in let y0 : y ≡ 0 = omega arith in let z0 : z ≡ 0 = omega arith in
     rw (x0, y0, z0, ofZ-toZ w32 (e * 16777216 + f * 65536 + g * 256 + h) (four-lt e f g h he hf hg hh), four-of e f g h he hf hg hh [])
@@ -65,7 +65,7 @@ pub read-back : (bs : List ℕ) → Twelve bs → getD bs 5 0 + getD bs 6 0 + ge
 read-back bs t gap r e =
     ap fieldsBytes e
     ∙ spelled _ _ _ _ _ _ _ _ _ _ _ _ (t .small 0 (lit< tt)) (t .small 1 (lit< tt)) (t .small 2 (lit< tt)) (t .small 3 (lit< tt))
-      (t .small 8 (lit< tt)) (t .small 9 (lit< tt)) (t .small 10 (lit< tt)) (t .small 11 (lit< tt)) gap
+    (t .small 8 (lit< tt)) (t .small 9 (lit< tt)) (t .small 10 (lit< tt)) (t .small 11 (lit< tt)) gap
     ∙ spread-of 12 bs (t .long)
 
 -- fields that are all right

@@ -53,4 +53,4 @@ abbrev pub eventWrong : List ℕ → Option ℕ
 eventWrong bs =
     firstWrong
     ((isSecond (fourAt bs 0), 0) ∷ (isCode (getD bs 4 0), 4) ∷ (isParty (getD bs 4 0) (getD bs 5 0), 5)
-      ∷ (eqb (getD bs 6 0 + getD bs 7 0 + getD bs 8 0 + getD bs 9 0 + getD bs 10 0 + getD bs 11 0) 0, 6) ∷ [])
+    ∷ (eqb (getD bs 6 0 + getD bs 7 0 + getD bs 8 0 + getD bs 9 0 + getD bs 10 0 + getD bs 11 0) 0, 6) ∷ [])

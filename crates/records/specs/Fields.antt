@@ -12,13 +12,13 @@ use Rattle.records.specs.declared.fields.Second.{Second}
 
 -- the number in a field
 abbrev pub secondOf : Second → ℕ
-secondOf s = s .value
+secondOf s = s .second
 
 abbrev pub satelliteOf : Satellite → ℕ
-satelliteOf s = s .value
+satelliteOf s = s .satellite
 
 abbrev pub nanosecondsOf : Nanoseconds → ℤ
-nanosecondsOf n = n .value
+nanosecondsOf n = n .nanoseconds
 
 -- a week has 604,800 seconds, there are 32 satellites, and an offset is at most half a second
 abbrev pub isSecond : ℕ → Bool

@@ -42,4 +42,4 @@ abbrev pub offsetWrong : List ℕ → Option ℕ
 offsetWrong bs =
     firstWrong
     ((isSecond (fourAt bs 0), 0) ∷ (isSatellite (getD bs 4 0), 4) ∷ (eqb (getD bs 5 0 + getD bs 6 0 + getD bs 7 0) 0, 5)
-      ∷ (isNanoseconds (toZ w32 (fourAt bs 8)), 8) ∷ [])
+    ∷ (isNanoseconds (toZ w32 (fourAt bs 8)), 8) ∷ [])

@@ -3,15 +3,16 @@ ghost use Rattle.records.specs.Events.{eventFields, eventOf, eventBytes, event
 ghost use Rattle.records.specs.Fields.{secondOf};
 ghost use Rattle.records.specs.Reading.{judged, shownAs};
 use crate::fields::Satellite;
+use crate::fields::SatelliteDebug;
+use crate::fields::SatellitePartialEq;
 use crate::fields::Second;
+use crate::fields::SecondDebug;
+use crate::fields::SecondPartialEq;
+use crate::kinds::RECORD_BYTES;
 use crate::kinds::RecordKind;
 use crate::refusals::no_such_record;
 use crate::refusals::wrong_length;
 use faults::Fault;
-use crate::fields::SatelliteDebug;
-use crate::fields::SatellitePartialEq;
-use crate::fields::SecondDebug;
-use crate::fields::SecondPartialEq;
 
 // What happened to a rack's lock on a satellite. In a holdover the rack runs on its own clock, and no satellite has
 // a part in it.
@@ -22,8 +23,14 @@ pub enum Event {
     Holdover(Second),
 }
 
+// The code by which a card names event records.
+const CODE: u8 = 2;
+
+// What happened, as byte 4 has it.
 const LOCK_LOST: u8 = 1;
+
 const LOCK_GAINED: u8 = 2;
+
 const HOLDOVER: u8 = 3;
 
 // The event with this code at this second, or the refusal of the code or of the satellite.
@@ -85,7 +92,11 @@ impl Event {
     {
         match self {
             Event::LockLost(second, satellite) => (second.value(), LOCK_LOST, satellite.value()),
-            Event::LockGained(second, satellite) => (second.value(), LOCK_GAINED, satellite.value()),
+            Event::LockGained(second, satellite) => (
+                second.value(),
+                LOCK_GAINED,
+                satellite.value(),
+            ),
             Event::Holdover(second) => (second.value(), HOLDOVER, 0),
         }
     }
@@ -99,10 +110,10 @@ pub impl RecordKind for Event as EventKind {
     ghost wrong = { eventWrong };
 
     fn code() -> u8 {
-        2
+        CODE
     }
 
-    fn encode(&self) -> [u8; 12] {
+    fn encode(&self) -> [u8; RECORD_BYTES] {
         let (second, what, satellite) = self.fields();
         let [a, b, c, d] = second.to_be_bytes();
         [a, b, c, d, what, satellite, 0, 0, 0, 0, 0, 0]

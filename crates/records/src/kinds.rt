@@ -37,7 +37,7 @@ pub trait RecordKind: Copy + Drop {
     fn code() -> u8
         ensures { λ r. ⌜ r ≡ code ⌝ };
 
-    fn encode(&self) -> [u8; 12]
+    fn encode(&self) -> [u8; RECORD_BYTES]
         ensures { λ r. ⌜ r ≡ bytes (now (self .entry)) ⌝ };
 
     // The record with these bytes, and no other; refused if they are not twelve, or at the first wrong field.

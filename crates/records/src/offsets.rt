@@ -2,18 +2,22 @@ ghost use mathlib.Core.Path.{_≡_};
 ghost use Rattle.records.specs.Reading.{shownAs};
 ghost use Rattle.records.specs.Offsets.{offsetFields, offsetOf, offsetBytes, offsetWrong};
 use crate::fields::Nanoseconds;
+use crate::fields::NanosecondsDebug;
+use crate::fields::NanosecondsPartialEq;
 use crate::fields::Satellite;
+use crate::fields::SatelliteDebug;
+use crate::fields::SatellitePartialEq;
 use crate::fields::Second;
+use crate::fields::SecondDebug;
+use crate::fields::SecondPartialEq;
+use crate::kinds::RECORD_BYTES;
 use crate::kinds::RecordKind;
 use crate::refusals::no_such_record;
 use crate::refusals::wrong_length;
 use faults::Fault;
-use crate::fields::NanosecondsDebug;
-use crate::fields::NanosecondsPartialEq;
-use crate::fields::SatelliteDebug;
-use crate::fields::SatellitePartialEq;
-use crate::fields::SecondDebug;
-use crate::fields::SecondPartialEq;
+
+// The code by which a card names offset records.
+const CODE: u8 = 1;
 
 // How far a rack's clock was off a satellite's, at a second of the week.
 #[derive(Clone, Copy, PartialEq, Eq, Debug)]
@@ -37,7 +41,11 @@ impl Offset {
         let Some(nanoseconds) = Nanoseconds::new(nanoseconds) else {
             return Err(no_such_record(8));
         };
-        Ok(Offset { second, satellite, nanoseconds })
+        Ok(Offset {
+            second,
+            satellite,
+            nanoseconds,
+        })
     }
 }
 
@@ -49,10 +57,10 @@ pub impl RecordKind for Offset as OffsetKind {
     ghost wrong = { offsetWrong };
 
     fn code() -> u8 {
-        1
+        CODE
     }
 
-    fn encode(&self) -> [u8; 12] {
+    fn encode(&self) -> [u8; RECORD_BYTES] {
         let [a, b, c, d] = self.second.value().to_be_bytes();
         let [e, f, g, h] = self.nanoseconds.value().to_be_bytes();
         [a, b, c, d, self.satellite.value(), 0, 0, 0, e, f, g, h]
@@ -74,6 +82,10 @@ pub impl RecordKind for Offset as OffsetKind {
         let Some(nanoseconds) = Nanoseconds::new(i32::from_be_bytes([e, f, g, h])) else {
             return Err(no_such_record(8));
         };
-        Ok(Offset { second, satellite, nanoseconds })
+        Ok(Offset {
+            second,
+            satellite,
+            nanoseconds,
+        })
     }
 }

@@ -5,7 +5,7 @@ use faults::Layer;
 use faults::Reason;
 
 // The refusal of a wrong field that begins at this byte.
-pub const fn no_such_record(byte: u64) -> Fault
+pub(crate) const fn no_such_record(byte: u64) -> Fault
     ensures { λ r. ⌜ r ≡ noSuchRecord byte ⌝ }
 {
     Fault {
@@ -16,7 +16,7 @@ pub const fn no_such_record(byte: u64) -> Fault
 }
 
 // The refusal of this many bytes in the place of twelve.
-pub const fn wrong_length(length: usize) -> Fault
+pub(crate) const fn wrong_length(length: usize) -> Fault
     ensures { λ r. ⌜ r ≡ wrongLength length ⌝ }
 {
     Fault {

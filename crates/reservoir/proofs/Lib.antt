@@ -1,1 +1,2 @@
 pub mod OneMore
+pub mod Looks

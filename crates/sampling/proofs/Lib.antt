@@ -1,3 +1,4 @@
 pub mod SlotLaws
 pub mod SampleLaws
+pub mod AnswerLaws
 pub mod ViewLaws

@@ -38,11 +38,15 @@ newest-rule-more seed size i n k true e h before =
     record { from-one = omega arith; counted = omega arith; has-slot = rw (← same) (isSlot-true _ i e); greatest = λ j lt le s. omega arith }
 newest-rule-more seed size i n k false e h before =
     let was = before h in
-    record { from-one = was .from-one; counted = omega arith; has-slot = was .has-slot;
+    record {
+      from-one = was .from-one;
+      counted = omega arith;
+      has-slot = was .has-slot;
       greatest = λ j lt le s. ⊎-elim (λ (l : j < suc n). was .greatest j lt (omega arith) s)
-        (λ (g : suc n ≤ j). let same : j ≡ suc n = omega arith in
+          (λ (g : suc n ≤ j). let same : j ≡ suc n = omega arith in
           let t : isSlot (slotOf seed size (suc n)) i ≡ true = rw (← same) (isSlot-of _ i s) in true≢false (sym t ∙ e))
-        (cases-lt j (suc n)) }
+          (cases-lt j (suc n));
+    }
 
 pub newest-rule : (seed size i n k : ℕ) → newest seed size i n ≡ Some k → Newest seed size n i k
 newest-rule seed size i zero k e = let n = newest-none seed size i in let z : _≡_ {A = ℕ} 0 1 = cc in absurd (omega arith)
@@ -54,13 +58,13 @@ rule-newest-more : (seed size i n k : ℕ) (b : Bool) → isSlot (slotOf seed si
     → (Newest seed size n i k → newest seed size i n ≡ Some k) → cond b (Some (suc n)) (newest seed size i n) ≡ Some k
 rule-newest-more seed size i n k true e h before =
     ⊎-elim (λ (l : k < suc n). absurd (h .greatest (suc n) l (omega arith) (isSlot-true _ i e)))
-      (λ (g : suc n ≤ k). let c = h .counted in let same : suc n ≡ k = omega arith in ap {B = Option ℕ} Some same) (cases-lt k (suc n))
+    (λ (g : suc n ≤ k). let c = h .counted in let same : suc n ≡ k = omega arith in ap {B = Option ℕ} Some same) (cases-lt k (suc n))
 rule-newest-more seed size i n k false e h before =
     ⊎-elim
     (λ (l : k < suc n). before (record { from-one = h .from-one; counted = omega arith; has-slot = h .has-slot; greatest = λ j lt le s. h .greatest j lt (omega arith) s }))
-      (λ (g : suc n ≤ k). let c = h .counted in let same : k ≡ suc n = omega arith in
-        let t : isSlot (slotOf seed size (suc n)) i ≡ true = rw (← same) (isSlot-of _ i (h .has-slot)) in absurd (true≢false (sym t ∙ e)))
-      (cases-lt k (suc n))
+    (λ (g : suc n ≤ k). let c = h .counted in let same : k ≡ suc n = omega arith in
+    let t : isSlot (slotOf seed size (suc n)) i ≡ true = rw (← same) (isSlot-of _ i (h .has-slot)) in absurd (true≢false (sym t ∙ e)))
+    (cases-lt k (suc n))
 
 pub rule-newest : (seed size i n k : ℕ) → Newest seed size n i k → newest seed size i n ≡ Some k
 rule-newest seed size i zero k h = let a = h .from-one in let b = h .counted in absurd (omega arith)
@@ -85,7 +89,7 @@ some-newest-more : (seed size i n : ℕ) (b : Bool) → isSlot (slotOf seed size
 some-newest-more seed size i n true e h below before = (suc n, refl)
 some-newest-more seed size i n false e h below before =
     ⊎-elim before (λ (g : n ≤ i). let same : i ≡ n = omega arith in
-      let t : isSlot (slotOf seed size (suc n)) i ≡ true = rw (← same) (isSlot-of _ i (slot-early seed size i below)) in absurd (true≢false (sym t ∙ e)))
+    let t : isSlot (slotOf seed size (suc n)) i ≡ true = rw (← same) (isSlot-of _ i (slot-early seed size i below)) in absurd (true≢false (sym t ∙ e)))
     (cases-lt i n)
 
 some-newest : (seed size i n : ℕ) → i < n → i < size → (k : ℕ) × (newest seed size i n ≡ Some k)

@@ -53,4 +53,4 @@ pub record SampleLaw (R : Type 0) (seed size : ℕ) : Type 0 where
   pub filled : (rs : List R) (i : ℕ) → i < min (length rs) size → (r : R) × (sampleAt seed size rs i ≡ Some r)
   pub unfilled : (rs : List R) (i : ℕ) → min (length rs) size ≤ i → sampleAt seed size rs i ≡ None
   pub one-more : (rs : List R) (r : R) (i : ℕ)
-    → sampleAt seed size (rs ++ r ∷ []) i ≡ cond (isSlot (slotOf seed size (length rs + 1)) i) (Some r) (sampleAt seed size rs i)
+      → sampleAt seed size (rs ++ r ∷ []) i ≡ cond (isSlot (slotOf seed size (length rs + 1)) i) (Some r) (sampleAt seed size rs i)

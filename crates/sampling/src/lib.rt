@@ -1,14 +1,14 @@
-// Which record is in which slot: the draws, the slots, and the sample of the records counted so far.
+// Which record goes to which slot. The specs say what the sample of the records counted so far is.
 ghost use mathlib.Core.Path.{_≡_};
 ghost use Prim.Native.Nat.{_<_};
 ghost use Rattle.std.specs.Options.{Cases as BySome};
 ghost use Rattle.sampling.specs.Draws.{drawOf, slotOf};
-ghost use Rattle.sampling.specs.Samples.{SampleLaw};
-use records::RecordKind;
 
 // SplitMix64's increment and multipliers.
 const GAMMA: u64 = 0x9E37_79B9_7F4A_7C15;
+
 const FIRST_FACTOR: u64 = 0xBF58_476D_1CE4_E5B9;
+
 const SECOND_FACTOR: u64 = 0x94D0_49BB_1331_11EB;
 
 // Draw k of a seed. Each is worked out from its number, so none has to be drawn before another.
@@ -38,10 +38,4 @@ pub fn slot_of(seed: u64, size: u16, k: u32) -> Option<u16>
     } else {
         None
     }
-}
-
-// The law of a sample, for records of every kind. The answer is of no use; the promise is.
-pub fn sample_law<K: RecordKind>(seed: u64, size: u16)
-    ensures { λ _. ⌜ SampleLaw K seed size ⌝ }
-{
 }

@@ -23,7 +23,7 @@ pub slot-said : (seed size : ℕ) (xs : List Fields) (i : ℕ) (s : Reservoir Of
     → ((rs : List Offset) → Keeps seed size rs s → r ≡ slotAnswer seed size rs i) → recordReply (shownAs offsetFields r) ≡ recordReply (slotAnswer seed size xs i)
 slot-said seed size xs i s r k e =
     ap recordReply (ap (shownAs offsetFields) (e (k .records) (k .keeps)) ∙ sym (slot-map offsetFields seed size (k .records) i)
-      ∙ ap (λ ys. slotAnswer seed size ys i) (k .fields-are))
+    ∙ ap (λ ys. slotAnswer seed size ys i) (k .fields-are))
 
 -- an insert's answer and what is kept after it, where the record could be made
 made-said : (seed size : ℕ) (xs : List Fields) (x : Fields) (o : Option ℕ) (offset : Offset) (s t : Reservoir Offset) (r : Result (Option ℕ) Fault)
@@ -31,10 +31,14 @@ made-said : (seed size : ℕ) (xs : List Fields) (x : Fields) (o : Option ℕ) (
     → r ≡ insertAnswer seed size (k .records) → Keeps seed size (counted (k .records) offset) t
     → (slotReply r ≡ insertReply o seed size xs) × KeepsFields seed size (offered o xs x) t
 made-said seed size xs x None offset s t r e k answer keeps =
-    let same : offsetFields offset ≡ x = cc in
-    (ap slotReply (answer ∙ sym (insert-map offsetFields seed size (k .records)) ∙ ap (insertAnswer seed size) (k .fields-are)),
-     record { records = counted (k .records) offset; keeps = keeps;
-       fields-are = counted-map offsetFields (k .records) offset ∙ ap (λ ys. counted ys (offsetFields offset)) (k .fields-are) ∙ ap (counted xs) same })
+    let same : offsetFields offset ≡ x = cc in (
+      ap slotReply (answer ∙ sym (insert-map offsetFields seed size (k .records)) ∙ ap (insertAnswer seed size) (k .fields-are)),
+      record {
+        records = counted (k .records) offset;
+        keeps = keeps;
+        fields-are = counted-map offsetFields (k .records) offset ∙ ap (λ ys. counted ys (offsetFields offset)) (k .fields-are) ∙ ap (counted xs) same;
+      },
+    )
 made-said seed size xs x (Some place) offset s t r e k answer keeps = let z : _≡_ {A = ℕ} 0 1 = cc in absurd (omega arith)
 
 pub insert-said : (seed size : ℕ) (xs : List Fields) (x : Fields) (o : Option ℕ) (offset : Offset) (s t : Reservoir Offset) (r : Result (Option ℕ) Fault)

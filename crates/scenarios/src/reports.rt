@@ -45,10 +45,14 @@ fn sum(rows: &[Row]) -> i64
 }
 
 // The sample as it stands.
-pub fn report(heap: Global, sample: &Reservoir<Offset>) -> Result<Report, AllocError>
+pub(crate) fn report(heap: Global, sample: &Reservoir<Offset>) -> Result<Report, AllocError>
     ensures { λ r. ⌜ ((seed size : ℕ) (xs : List Fields) → KeepsFields seed size xs (now (sample .entry)) → made r (λ t. said (Told t) ≡ replyTo seed size xs Asked)) ⌝ }
 {
     let rows = rows(heap, sample)?;
     let sum = sum(rows.as_slice());
-    Ok(Report { count: sample.count(), rows, sum })
+    Ok(Report {
+        count: sample.count(),
+        rows,
+        sum,
+    })
 }

@@ -42,18 +42,31 @@ fn find(sample: &Reservoir<Offset>, i: u16) -> Answer
 }
 
 // One command.
-fn answer(heap: Global, sample: &mut Reservoir<Offset>, command: Command) -> Result<Answer, AllocError>
+fn answer(
+    heap: Global,
+    sample: &mut Reservoir<Offset>,
+    command: Command,
+) -> Result<Answer, AllocError>
     ensures { λ r. ⌜ ((seed size : ℕ) (xs : List Fields) → KeepsFields seed size xs (now (sample .entry)) → made r (λ a. said a ≡ replyTo seed size xs command) × KeepsFields seed size (after xs command) (now (sample .exit))) ⌝ }
 {
     match command {
-        Command::Insert { second, satellite, nanoseconds } => Ok(insert(sample, second, satellite, nanoseconds)),
+        Command::Insert {
+            second,
+            satellite,
+            nanoseconds,
+        } => Ok(insert(sample, second, satellite, nanoseconds)),
         Command::Slot(i) => Ok(find(sample, i)),
         Command::Report => Ok(Answer::Told(report(heap, sample)?)),
     }
 }
 
 // Works the commands of a scenario in order, and answers each by the sample of just the records accepted before it.
-pub fn work(heap: Global, size: u16, seed: u64, commands: &[Command]) -> Result<Vec<Answer>, Stopped>
+pub fn work(
+    heap: Global,
+    size: u16,
+    seed: u64,
+    commands: &[Command],
+) -> Result<Vec<Answer>, Stopped>
     ensures { λ r. ⌜ Worked seed size (now (commands .entry)) r ⌝ }
 {
     let mut sample = Reservoir::new(size, seed)?;

@@ -2,7 +2,11 @@
 // that cannot exist is refused when the command is worked, and the script is none the worse for it.
 #[derive(Clone, Copy, PartialEq, Eq, Debug)]
 pub enum Command {
-    Insert { second: u32, satellite: u32, nanoseconds: i32 },
+    Insert {
+        second: u32,
+        satellite: u32,
+        nanoseconds: i32,
+    },
     Slot(u16),
     Report,
 }
@@ -13,11 +17,4 @@ pub struct Scenario {
     pub size: u16,
     pub seed: u64,
     pub commands: Vec<Command>,
-}
-
-// A line that is not empty: it starts a scenario, or asks something of the one that was started.
-#[derive(Clone, Copy, PartialEq, Eq, Debug)]
-pub enum Line {
-    Reservoir { size: u16, seed: u64 },
-    Asks(Command),
 }

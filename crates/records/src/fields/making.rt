@@ -6,59 +6,63 @@ use crate::fields::Satellite;
 use crate::fields::Second;
 
 const LAST_SECOND: u32 = 604_799;
+
 const LAST_SATELLITE: u32 = 31;
+
 const MOST_NANOSECONDS: i32 = 500_000_000;
 
 impl Second {
     // The second with this number, if the week has it.
-    pub(crate) fn new(value: u32) -> Option<Second>
-        ensures { λ r. ⌜ mapped secondOf r ≡ secondIn value ⌝ }
+    pub(crate) fn new(second: u32) -> Option<Second>
+        ensures { λ r. ⌜ mapped secondOf r ≡ secondIn second ⌝ }
     {
-        if value > LAST_SECOND {
+        if second > LAST_SECOND {
             return None;
         }
-        Some(Second { value })
+        Some(Second { second })
     }
 
     pub fn value(self) -> u32
         ensures { λ r. ⌜ r ≡ secondOf self ⌝ }
     {
-        self.value
+        self.second
     }
 }
 
 impl Satellite {
     // The satellite with this number, if there is one.
-    pub(crate) fn new(value: u32) -> Option<Satellite>
-        ensures { λ r. ⌜ mapped satelliteOf r ≡ satelliteIn value ⌝ }
+    pub(crate) fn new(satellite: u32) -> Option<Satellite>
+        ensures { λ r. ⌜ mapped satelliteOf r ≡ satelliteIn satellite ⌝ }
     {
-        if value > LAST_SATELLITE {
+        if satellite > LAST_SATELLITE {
             return None;
         }
-        Some(Satellite { value: value as u8 })
+        Some(Satellite {
+            satellite: satellite as u8,
+        })
     }
 
     pub fn value(self) -> u8
         ensures { λ r. ⌜ r ≡ satelliteOf self ⌝ }
     {
-        self.value
+        self.satellite
     }
 }
 
 impl Nanoseconds {
     // An offset of this many nanoseconds, if it is within half a second.
-    pub(crate) fn new(value: i32) -> Option<Nanoseconds>
-        ensures { λ r. ⌜ mapped nanosecondsOf r ≡ nanosecondsIn value ⌝ }
+    pub(crate) fn new(nanoseconds: i32) -> Option<Nanoseconds>
+        ensures { λ r. ⌜ mapped nanosecondsOf r ≡ nanosecondsIn nanoseconds ⌝ }
     {
-        if value < -MOST_NANOSECONDS || value > MOST_NANOSECONDS {
+        if nanoseconds < -MOST_NANOSECONDS || nanoseconds > MOST_NANOSECONDS {
             return None;
         }
-        Some(Nanoseconds { value })
+        Some(Nanoseconds { nanoseconds })
     }
 
     pub fn value(self) -> i32
         ensures { λ r. ⌜ r ≡ nanosecondsOf self ⌝ }
     {
-        self.value
+        self.nanoseconds
     }
 }

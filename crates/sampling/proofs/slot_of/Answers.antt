@@ -13,15 +13,15 @@ returns-then-k-eq0 c =
 
 pub returns-then-k-size : need.returns-then-k-size
 returns-then-k-size c =
-    let some : 0 < c .args .k = omega arith in 
+    let some : 0 < c .args .k = omega arith in
     record { value = rw (slot-from-one (c .args .seed) (c .args .size) (c .args .k)) (grind (arith, tells)); bound = search needs }
 
 pub returns-then-remainder-size : need.returns-then-remainder-size
 returns-then-remainder-size c =
-    let some : 0 < c .args .k = omega arith in 
+    let some : 0 < c .args .k = omega arith in
     record { value = rw (slot-from-one (c .args .seed) (c .args .size) (c .args .k)) (grind (arith, tells)); bound = search needs }
 
 pub returns-else-remainder-size : need.returns-else-remainder-size
 returns-else-remainder-size c =
-    let some : 0 < c .args .k = omega arith in 
+    let some : 0 < c .args .k = omega arith in
     record { value = rw (slot-from-one (c .args .seed) (c .args .size) (c .args .k)) (grind (arith, tells)); bound = search needs }

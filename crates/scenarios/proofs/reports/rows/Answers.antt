@@ -18,20 +18,20 @@ loop-i-again c =
     let s = c .args .sample .now in
     elim (c .match-slot .came) [
       | in-Ok·in-Continue-push w ↦ (
-          omega (arith, ap vec-len (w .rows-is), w .in-Continue-push .ensures tt .cases, c .loop-i .inv .0),
-          λ seed size xs k.
-              let h : i < size = omega (arith, c .size-i-end .ensures .value seed size (k .records) (k .keeps), c .loop-i-test .taken) in
-              ap (λ v. map rowOf (vec-items v)) (w .rows-is) ∙ ap (map rowOf) (w .in-Continue-push .ensures tt .items)
-              ∙ map-append rowOf (vec-items (c .loop-i .rows)) _ ∙ ap (λ l. l ++ (i, offsetFields (w .in-Ok .offset)) ∷ []) (c .loop-i .inv .1 seed size xs k)
-              ∙ sym (row-filled seed size xs i s (w .in-Ok .offset) k h (λ rs. w .in-Ok .ensures tt seed size rs)),
-        )
+        omega (arith, ap vec-len (w .rows-is), w .in-Continue-push .ensures tt .cases, c .loop-i .inv .0),
+        λ seed size xs k.
+            let h : i < size = omega (arith, c .size-i-end .ensures .value seed size (k .records) (k .keeps), c .loop-i-test .taken) in
+            ap (λ v. map rowOf (vec-items v)) (w .rows-is) ∙ ap (map rowOf) (w .in-Continue-push .ensures tt .items)
+            ∙ map-append rowOf (vec-items (c .loop-i .rows)) _ ∙ ap (λ l. l ++ (i, offsetFields (w .in-Ok .offset)) ∷ []) (c .loop-i .inv .1 seed size xs k)
+            ∙ sym (row-filled seed size xs i s (w .in-Ok .offset) k h (λ rs. w .in-Ok .ensures tt .value seed size rs)),
+      )
       | in-Err w ↦ (
-          omega (arith, ap vec-len (w .rows-is), c .loop-i .inv .0),
-          λ seed size xs k.
-              let h : i < size = omega (arith, c .size-i-end .ensures .value seed size (k .records) (k .keeps), c .loop-i-test .taken) in
-              ap (λ v. map rowOf (vec-items v)) (w .rows-is) ∙ c .loop-i .inv .1 seed size xs k
-              ∙ sym (row-empty seed size xs i s (w .in-Err .-empty) k h (λ rs. w .in-Err .ensures tt seed size rs)),
-        )
+        omega (arith, ap vec-len (w .rows-is), c .loop-i .inv .0),
+        λ seed size xs k.
+            let h : i < size = omega (arith, c .size-i-end .ensures .value seed size (k .records) (k .keeps), c .loop-i-test .taken) in
+            ap (λ v. map rowOf (vec-items v)) (w .rows-is) ∙ c .loop-i .inv .1 seed size xs k
+            ∙ sym (row-empty seed size xs i s (w .in-Err .-empty) k h (λ rs. w .in-Err .ensures tt .value seed size rs)),
+      )
     ]
 
 pub returns : need.returns

@@ -27,10 +27,11 @@ loop-row-again c =
     let low : negsuc 499999999 ≤ℤ n = rw (c .value .ensures) (x .offset .nanoseconds .low) in
     let high : n ≤ℤ pos 500000000 = rw (c .value .ensures) (x .offset .nanoseconds .high) in
     let P : ℤ → Type 0 = λ z. (z ≡ sumOf (map rowOf (take (i + 1) rows))) × (z ≤ℤ pos (500000000 * (i + 1))) × (pos 0 ≤ℤ (z +ℤ pos (500000000 * (i + 1)))) in
-    rw (c .loop-row .sum-is) (subst P (sym (cast-sum s n fit32 fit64 fits))
-      (ap (λ z. z +ℤ n) (sym (c .loop-row .sum-is) ∙ v .0) ∙ ap (λ z. sumOf (map rowOf (take i rows)) +ℤ z) (c .value .ensures) ∙ sym (sum-more rows i x (c .loop-row-test .taken) (c .row-item .is)),
-       high-more i s n (rw (← (c .loop-row .sum-is)) (v .1)) high,
-       low-more i s n (rw (← (c .loop-row .sum-is)) (v .2)) low))
+    rw (c .loop-row .sum-is) (subst P (sym (cast-sum s n fit32 fit64 fits)) (
+      ap (λ z. z +ℤ n) (sym (c .loop-row .sum-is) ∙ v .0) ∙ ap (λ z. sumOf (map rowOf (take i rows)) +ℤ z) (c .value .ensures) ∙ sym (sum-more rows i x (c .loop-row-test .taken) (c .row-item .is)),
+      high-more i s n (rw (← (c .loop-row .sum-is)) (v .1)) high,
+      low-more i s n (rw (← (c .loop-row .sum-is)) (v .2)) low,
+    ))
 
 pub returns : need.returns
 returns c = c .loop-row .inv .0 ∙ ap (λ rows. sumOf (map rowOf rows)) (take-all _ (c .args .rows .now) (c .loop-row-test .left))

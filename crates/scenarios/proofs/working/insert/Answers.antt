@@ -18,7 +18,7 @@ returns-in-Ok-insert c = λ seed size xs k.
     let fit : SFits w32 (c .args .nanoseconds) = search needs in
     let e : _≡_ {A = Result Fields Fault} (Ok (offsetFields (c .in-Ok .offset))) (offsetOf x) = simp toZ-ofZ at (c .in-Ok .ensures tt) in
     insert-said seed size xs x (wrongFields x) (c .in-Ok .offset) (c .args .sample .now) _ (Ok (c .in-Ok-insert .slot)) e k
-    (λ rs h. c .in-Ok-insert .ensures tt seed size rs h)
+    (λ rs h. c .in-Ok-insert .ensures tt .value seed size rs h)
 
 pub returns-in-Err-insert : need.returns-in-Err-insert
 returns-in-Err-insert c = λ seed size xs k.
@@ -26,4 +26,4 @@ returns-in-Err-insert c = λ seed size xs k.
     let fit : SFits w32 (c .args .nanoseconds) = search needs in
     let e : _≡_ {A = Result Fields Fault} (Ok (offsetFields (c .in-Ok .offset))) (offsetOf x) = simp toZ-ofZ at (c .in-Ok .ensures tt) in
     insert-said seed size xs x (wrongFields x) (c .in-Ok .offset) (c .args .sample .now) _ (Err (c .in-Err-insert .fault)) e k
-    (λ rs h. c .in-Err-insert .ensures tt seed size rs h)
+    (λ rs h. c .in-Err-insert .ensures tt .value seed size rs h)

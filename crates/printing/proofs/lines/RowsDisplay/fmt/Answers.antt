@@ -17,7 +17,7 @@ loop-row-again g c = λ plain.
     let p = c .loop-row .inv plain in
     put-is took (c .args .f .now) _ _ (c .write .last .self) (sym (rows-more rows i x (c .loop-row-test .taken) (c .row-item .is)))
     (put-more took (c .args .f .now) (rowsText (map rowOf (take i rows))) (c .loop-row .f) (rowText (rowOf x)) (c .write .last .self) p
-      (c .in-Continue-write .ensures tt .shows (p .plain) refl))
+    (c .in-Continue-write .ensures tt .shows (p .plain) refl))
 
 pub returns : need.returns
 returns g c = λ plain ok.

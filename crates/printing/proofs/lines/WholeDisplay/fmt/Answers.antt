@@ -14,5 +14,5 @@ returns g c = λ plain ok.
     let fit : SFits w64 (told .sum) = search needs in
     put-is (g .W·Write .took) (c .args .f .now) _ _ (c .write .last .self)
     (report-text (told .count) (c .as-slice .result .now) (vec-items (told .rows)) (c .len .result) _ (told .sum)
-      (c .as-slice .ensures .value) (c .len .ensures ∙ told .rows .ok .0) (toZ-ofZ w64 (told .sum) fit))
+    (c .as-slice .ensures .value) (c .len .ensures ∙ told .rows .ok .0) (toZ-ofZ w64 (told .sum) fit))
     (c .write .ensures .shows plain ok)
