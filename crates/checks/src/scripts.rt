@@ -1,5 +1,5 @@
-use printing::Mean;
-use printing::MeanDisplay;
+use means::Mean;
+use means::MeanDisplay;
 use script::UnreadDisplay;
 use std::alloc::Global;
 use std::test::*;

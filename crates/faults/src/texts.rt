@@ -8,7 +8,7 @@ use std::fmt;
 
 impl Reason {
     // The reason in a few words.
-    pub fn text(self) -> &'static str
+    fn text(self) -> &'static str
         ensures { λ r. ⌜ now r ≡ reasonText self ⌝ }
     {
         match self {
@@ -33,7 +33,7 @@ impl Reason {
 
 impl Layer {
     // The layer's name.
-    pub fn text(self) -> &'static str
+    fn text(self) -> &'static str
         ensures { λ r. ⌜ now r ≡ layerText self ⌝ }
     {
         match self {

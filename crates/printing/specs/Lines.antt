@@ -15,7 +15,7 @@ use Rattle.records.specs.Offsets.{Fields}
 use Rattle.script.specs.declared.commands.Command.{Command}
 use Rattle.script.specs.declared.commands.Command.the-variants.{Insert, Slot, Report}
 use Rattle.scenarios.specs.Replies.{Reply, inserted, found, told, refused}
-use Rattle.printing.specs.Means.{meanText}
+use Rattle.means.specs.Means.{meanText}
 
 -- a command's first word
 abbrev pub nameOf : Command → List ℕ

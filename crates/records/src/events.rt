@@ -3,11 +3,7 @@ ghost use Rattle.records.specs.Events.{eventFields, eventOf, eventBytes, event
 ghost use Rattle.records.specs.Fields.{secondOf};
 ghost use Rattle.records.specs.Reading.{judged, shownAs};
 use crate::fields::Satellite;
-use crate::fields::SatelliteDebug;
-use crate::fields::SatellitePartialEq;
 use crate::fields::Second;
-use crate::fields::SecondDebug;
-use crate::fields::SecondPartialEq;
 use crate::kinds::RECORD_BYTES;
 use crate::kinds::RecordKind;
 use crate::refusals::no_such_record;
@@ -16,7 +12,7 @@ use faults::Fault;
 
 // What happened to a rack's lock on a satellite. In a holdover the rack runs on its own clock, and no satellite has
 // a part in it.
-#[derive(Clone, Copy, PartialEq, Eq, Debug)]
+#[derive(Clone, Copy)]
 pub enum Event {
     LockLost(Second, Satellite),
     LockGained(Second, Satellite),

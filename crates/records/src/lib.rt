@@ -6,9 +6,7 @@ mod offsets;
 mod refusals;
 
 pub use events::Event;
-pub use events::EventDebug;
 pub use events::EventKind;
-pub use events::EventPartialEq;
 pub use fields::Nanoseconds;
 pub use fields::Satellite;
 pub use fields::Second;
@@ -16,6 +14,4 @@ pub use kinds::RECORD_BYTES;
 pub use kinds::RecordKind;
 pub use kinds::reread;
 pub use offsets::Offset;
-pub use offsets::OffsetDebug;
 pub use offsets::OffsetKind;
-pub use offsets::OffsetPartialEq;

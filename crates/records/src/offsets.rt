@@ -2,14 +2,8 @@ ghost use mathlib.Core.Path.{_≡_};
 ghost use Rattle.records.specs.Reading.{shownAs};
 ghost use Rattle.records.specs.Offsets.{offsetFields, offsetOf, offsetBytes, offsetWrong};
 use crate::fields::Nanoseconds;
-use crate::fields::NanosecondsDebug;
-use crate::fields::NanosecondsPartialEq;
 use crate::fields::Satellite;
-use crate::fields::SatelliteDebug;
-use crate::fields::SatellitePartialEq;
 use crate::fields::Second;
-use crate::fields::SecondDebug;
-use crate::fields::SecondPartialEq;
 use crate::kinds::RECORD_BYTES;
 use crate::kinds::RecordKind;
 use crate::refusals::no_such_record;
@@ -20,7 +14,7 @@ use faults::Fault;
 const CODE: u8 = 1;
 
 // How far a rack's clock was off a satellite's, at a second of the week.
-#[derive(Clone, Copy, PartialEq, Eq, Debug)]
+#[derive(Clone, Copy)]
 pub struct Offset {
     pub second: Second,
     pub satellite: Satellite,

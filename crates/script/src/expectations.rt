@@ -7,7 +7,7 @@ use std::alloc::Refused;
 use std::fmt;
 
 // What a bad line should have had.
-#[derive(Clone, Copy, PartialEq, Eq, Debug)]
+#[derive(Clone, Copy)]
 pub enum Expected {
     CommandName,
     ReservoirFirst,

@@ -1,7 +1,8 @@
+// The mean of numbers, as it is printed: with three decimals, halves away from zero.
 ghost use Prim.Native.Nat.{_<_};
 ghost use mathlib.Core.Path.{_≡_};
 ghost use Rattle.std.specs.declared.option.Option.the-variants.{Some};
-ghost use Rattle.printing.specs.Means.{thousandthsOf, meanText};
+ghost use Rattle.means.specs.Means.{thousandthsOf, meanText};
 use std::fmt;
 
 // The mean of `count` numbers with this sum.
