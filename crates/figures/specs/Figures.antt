@@ -10,6 +10,8 @@ use Rattle.faults.specs.declared.faults.Fault.{Fault}
 use Rattle.records.specs.Offsets.{Fields, fieldsBytes, offsetOf, offsetWrong}
 use Rattle.records.specs.Reading.{readAs}
 use Rattle.std.specs.declared.result.Result.{Result}
+use Rattle.benches.specs.Held.{settled, tore}
+use Rattle.benches.specs.Passes.{Pass, decided}
 use Rattle.sampling.specs.Draws.{drawOf, slotOf}
 use Rattle.sampling.specs.Samples.{sampleAt}
 
@@ -57,3 +59,9 @@ pub record Figures : Type 0 where
   pub late-second : shown (offsetOf (604800, 31, negsuc 0)) ≡ refused 5 4 0
   pub least-offset : shown (offsetOf (0, 0, negsuc 499999999)) ≡ accepted (0, 0, negsuc 499999999)
   pub below-least : shown (offsetOf (0, 0, negsuc 500000000)) ≡ refused 5 4 8
+  -- a bench's choices at a block with one held write: the settled block, the write, torn, the settled block
+  pub choice-zero : (b : ℕ) (memory write left : List ℕ) → decided b (write ∷ []) (record { mem = memory; left = 0 ∷ left }) ≡ record { mem = memory; left = left }
+  pub choice-one : (b : ℕ) (memory write left : List ℕ) → decided b (write ∷ []) (record { mem = memory; left = 1 ∷ left }) ≡ record { mem = settled memory b write; left = left }
+  pub choice-two : (b : ℕ) (memory write left : List ℕ) → decided b (write ∷ []) (record { mem = memory; left = 2 ∷ left }) ≡ record { mem = tore memory b; left = left }
+  pub choice-three : (b : ℕ) (memory write left : List ℕ) → decided b (write ∷ []) (record { mem = memory; left = 3 ∷ left }) ≡ record { mem = memory; left = left }
+  pub choice-past : (b : ℕ) (memory write : List ℕ) → decided b (write ∷ []) (record { mem = memory; left = [] }) ≡ record { mem = memory; left = [] }

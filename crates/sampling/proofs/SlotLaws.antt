@@ -9,7 +9,7 @@ use Rattle.std.proofs.shelf.Tests.{lt-ltb}
 use Rattle.std.proofs.shelf.Ways.{tells}
 use Rattle.std.specs.declared.option.Option.{Option}
 use Rattle.std.specs.declared.option.Option.the-variants.{Some, None}
-use Rattle.sampling.specs.Draws.{drawOf, slotOf, within}
+use Rattle.sampling.specs.Draws.{drawOf, slotBy, slotOf, within}
 
 pub slot-zero : (seed size : ℕ) → slotOf seed size 0 ≡ None
 unfolding slotOf
@@ -20,7 +20,7 @@ unfolding slotOf
 slot-suc seed size j = refl
 
 -- the same by the record's number
-pub slot-from-one : (seed size k : ℕ) → 0 < k → slotOf seed size k ≡ cond (ltb (k - 1) size) (Some (k - 1)) (within size (drawOf seed k % k))
+pub slot-from-one : (seed size k : ℕ) → 0 < k → slotOf seed size k ≡ slotBy size k (drawOf seed k)
 slot-from-one seed size zero h = absurd (omega arith)
 slot-from-one seed size (suc j) h = let e : suc j - 1 ≡ j = omega arith in slot-suc seed size j ∙ rw e refl
 

@@ -27,5 +27,10 @@ returns c = record {
     late-second = refl;
     least-offset = refl;
     below-least = refl;
+    choice-zero = λ b memory write left. refl;
+    choice-one = λ b memory write left. refl;
+    choice-two = λ b memory write left. refl;
+    choice-three = λ b memory write left. refl;
+    choice-past = λ b memory write. refl;
   };
 }

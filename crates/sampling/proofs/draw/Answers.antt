@@ -1,7 +1,6 @@
-use mathlib.Core.Path.{refl}
 use Rattle.sampling.specs.Draws.{drawOf}
 use Rattle.sampling.proofs.draw.Needs as need
 
 pub returns : need.returns
 unfolding drawOf
-returns c = refl
+returns c = c .split-mix .ensures

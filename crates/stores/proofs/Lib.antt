@@ -1,0 +1,2 @@
+pub mod Sameness
+pub mod Soundness
