@@ -1,7 +1,7 @@
 use sampling::draw;
 use std::test::*;
 
-// A seed, the number of a draw, and the published output of SplitMix64.
+// A seed, the number of a draw, and the output of SplitMix64 as OpenJDK 17's SplittableRandom gives it.
 const PUBLISHED: [(u64, u64, u64); 13] = [
     (0, 1, 0xE220_A839_7B1D_CDAF),
     (0, 2, 0x6E78_9E6A_A1B9_65F4),
