@@ -1,4 +1,6 @@
 // A store that cuts the power and tears blocks as it is told, to try what is above it.
+#![tactic(auto)]
+
 mod benches;
 mod held;
 mod holds;

@@ -1,4 +1,6 @@
 // Refusals: what every layer answers in place of a result, with the number that the format gives it.
+#![tactic(auto)]
+
 mod faults;
 mod texts;
 

@@ -1,4 +1,6 @@
 // Figures worked out by hand, held against the definitions that all contracts cite, and against the code.
+#![tactic(auto)]
+
 ghost use Rattle.std.specs.Prelude.{◌≡◌, [], ◌∷◌, Some, None};
 ghost use Rattle.figures.specs.Figures.{Figures};
 

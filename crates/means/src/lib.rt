@@ -1,4 +1,6 @@
 // The mean of numbers, as it is printed: with three decimals, halves away from zero.
+#![tactic(auto)]
+
 ghost use Rattle.std.specs.Prelude.{◌≡◌, ◌<◌, Some};
 ghost use Rattle.means.specs.Means.{thousandths_of, mean_text};
 

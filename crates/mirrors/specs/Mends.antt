@@ -139,13 +139,13 @@ mirror_lawful half on m h w =
           (either p.0 q.0, record { first = p.0; second = q.0; at_first = p.1; at_second = q.1; is = refl });
       stand_long = λ b bs l z.
           ⊎_elim
-          (λ p. w.stand-long b bs (omega arith) p)
-          (λ p. w.stand-long (half + b) bs (omega arith) p)
+          (λ p. w.stand_long b bs (omega arith) p)
+          (λ p. w.stand_long (half + b) bs (omega arith) p)
           (copy_stands m half b (whole bs) z.first z.second z.at_first z.at_second z.is);
       read_long = λ b bs l e.
           ⊎_elim
-          (λ p. w.read-long b bs (omega arith) p)
-          (λ p. w.read-long (half + b) bs (omega arith) p)
+          (λ p. w.read_long b bs (omega arith) p)
+          (λ p. w.read_long (half + b) bs (omega arith) p)
           (copy_reads bs (m.reads b) (m.reads (half + b)) e);
     }
 

@@ -1,4 +1,6 @@
 // Reads the text of a script into scenarios, or says which line is bad and what was expected there.
+#![tactic(auto)]
+
 mod forms;
 mod lines;
 mod numerals;

@@ -1,4 +1,6 @@
 // What is printed of a command and its answer.
+#![tactic(auto)]
+
 mod lines;
 
 pub use lines::{FaultNumbers, Said, name};

@@ -1,4 +1,6 @@
 // Reads a script from standard input, works it, and prints what each command is answered.
+#![tactic(auto)]
+
 use anyhow::anyhow;
 use std::io;
 use transcripts::transcript;

@@ -1,4 +1,6 @@
 // Records of twelve bytes: what every kind of record keeps to, and the two kinds that a rack stores.
+#![tactic(auto)]
+
 mod events;
 mod fields;
 mod kinds;

@@ -1,4 +1,6 @@
 // A sample held in memory, of the records inserted so far.
+#![tactic(auto)]
+
 mod reservoirs;
 
 pub use reservoirs::{COUNT_LIMIT, Reservoir, SLOT_LIMIT};

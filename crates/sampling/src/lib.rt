@@ -1,4 +1,6 @@
 // Which record goes to which slot. The specs say what the sample of the records counted so far is.
+#![tactic(auto)]
+
 ghost use Rattle.std.specs.Prelude.{◌≡◌, ◌<◌, IfSome};
 ghost use Rattle.sampling.specs.Draws.{split_mix, draw_of, slot_by, slot_of};
 

@@ -1,4 +1,6 @@
 // Works a scenario: the commands of one reservoir, each answered by the sample of the records accepted before it.
+#![tactic(auto)]
+
 mod answers;
 mod reports;
 mod working;

@@ -1,4 +1,6 @@
 // The rack's scripts as values: scenarios and their commands, and what a bad line should have had.
+#![tactic(auto)]
+
 mod commands;
 mod expectations;
 

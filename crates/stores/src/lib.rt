@@ -1,4 +1,6 @@
 // Stores of blocks: what every call does to what is read now, and to what may be found after a power cut.
+#![tactic(auto)]
+
 mod stores;
 
 pub use stores::{BLOCK_BYTES, BLOCK_LIMIT, SteadyStore, Store};

@@ -1,4 +1,6 @@
 // A whole script, from its text to the text of all that it is answered.
+#![tactic(auto)]
+
 ghost use Rattle.transcripts.specs.Transcripts.{Transcribed};
 
 use parsing::parse;

@@ -6,7 +6,7 @@ use Rattle.figures.proofs.figures.Goals as goal
 pub returns : goal.returns
 unfolding draw_of slot_of newest
 returns c = record {
-  slots = rw (c.slot-of.ensures.value, c.slot-of-2.ensures.value, c.slot-of-3.ensures.value, c.slot-of-4.ensures.value, c.slot-of-5.ensures.value) refl;
+  slots = rw (c.slot_of.ensures.value, c.slot_of-2.ensures.value, c.slot_of-3.ensures.value, c.slot_of-4.ensures.value, c.slot_of-5.ensures.value) refl;
   computed = record {
     draw_one = refl;
     draw_two = refl;

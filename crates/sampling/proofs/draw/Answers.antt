@@ -3,4 +3,4 @@ use Rattle.sampling.proofs.draw.Goals as goal
 
 pub returns : goal.returns
 unfolding draw_of
-returns c = c.split-mix.ensures
+returns c = c.split_mix.ensures

@@ -11,6 +11,6 @@ pub returns : goal.returns
 returns c =
     let some : 0 < c.args.k = omega arith in
     record {
-      value = c.slot-by.ensures.value ∙ ap (slot_by c.args.size c.args.k) c.draw.ensures ∙ sym (slot_from_one c.args.seed c.args.size c.args.k some);
-      bound = c.slot-by.ensures.bound;
+      value = c.slot_by.ensures.value ∙ ap (slot_by c.args.size c.args.k) c.draw.ensures ∙ sym (slot_from_one c.args.seed c.args.size c.args.k some);
+      bound = c.slot_by.ensures.bound;
     }

@@ -16,15 +16,15 @@ loop-scenario-preserved c =
     let out = string_bytes c.loop-scenario.out in
     let lines = scenario_text x.size x.seed (vec_items x.commands) in
     let rest = scenarios_text (map plan_of (drop (i + 1) xs)) in
-    ap (λ b. b ++ rest) c.in-ok-scenario.ensures
+    ap (λ b. b ++ rest) c.in_ok-scenario.ensures
     ∙ one_line_more [] (scenarios_text (map plan_of xs)) out lines (scenarios_text (map plan_of (drop i xs))) rest c.loop-scenario.invariant
     (scenarios_next xs i x c.loop-scenario-test.true c.scenario-item.is)
 
 pub returns : goal.returns
 returns c =
     let xs = c.deref-scenario-items.result.now in
-    let all = vec_items c.in-ok-scenarios.scenarios in
+    let all = vec_items c.in_ok-scenarios.scenarios in
     let out : string_bytes c.loop-scenario.out ≡ scenarios_text (map plan_of xs) =
     all_written [] (scenarios_text (map plan_of xs)) (string_bytes c.loop-scenario.out) _ c.loop-scenario.invariant (scenarios_end xs c.loop-scenario.scenario-index c.loop-scenario-test.false) in
     let same : xs ≡ all = c.deref-scenario-items.ensures.value in
-    ap printed c.in-ok-scenarios.ensures ∙ ap (λ b. Ok b) (sym (out ∙ ap (λ ys. scenarios_text (map plan_of ys)) same))
+    ap printed c.in_ok-scenarios.ensures ∙ ap (λ b. Ok b) (sym (out ∙ ap (λ ys. scenarios_text (map plan_of ys)) same))

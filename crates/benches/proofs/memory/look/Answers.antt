@@ -12,4 +12,4 @@ returns-then-writes-eq0 c =
 pub returns : goal.returns
 returns c =
     latest_last (content c.args.mem.now c.args.block) (writes_of c.args.held.now c.args.block) (c.count-writes.result - 1) (omega arith)
-    ∙ ap whole (sym (c.copy-from-slice.ensures.after ∙ c.nth.ensures))
+    ∙ ap whole (sym (c.copy_from_slice.ensures.after ∙ c.nth.ensures))

@@ -4,4 +4,4 @@ use Rattle.parsing.proofs.Arities.{texts}
 use Rattle.parsing.proofs.lines.read.Goals as goal
 
 pub returns : goal.returns
-returns c = c.line.ensures ∙ ap read_line (ap texts c.deref.ensures.value ∙ c.in-ok-words.ensures)
+returns c = c.line.ensures ∙ ap read_line (ap texts c.deref.ensures.value ∙ c.in_ok-words.ensures)

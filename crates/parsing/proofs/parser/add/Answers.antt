@@ -5,9 +5,9 @@ use Rattle.parsing.specs.declared.forms.Line.TheVariants.{Reservoir}
 use Rattle.parsing.proofs.Plans.{started}
 use Rattle.parsing.proofs.parser.add.Goals as goal
 
-pub returns-in-ok-push : goal.returns-in-ok-push
-returns-in-ok-push c =
-    let was = c.in-ok-read.ensures in
+pub returns-in_ok-push : goal.returns-in_ok-push
+returns-in_ok-push c =
+    let was = c.in_ok-read.ensures in
     let reads : Ok (Some (Reservoir c.in-Ok-Some-Reservoir.size c.in-Ok-Some-Reservoir.seed)) ≡ read_line (words_of c.args.text.now) = cc in
     started (vec_items c.args.scenarios.now) (vec_items c.push.new.self) c.in-Ok-Some-Reservoir.size c.in-Ok-Some-Reservoir.seed c.new.result (read_line (words_of c.args.text.now))
-    reads c.new.ensures.items c.in-ok-push.ensures.items
+    reads c.new.ensures.items c.in_ok-push.ensures.items

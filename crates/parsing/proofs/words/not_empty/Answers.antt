@@ -8,12 +8,12 @@ loop-part-init c = kept_first c.args.parts.now (vec_items c.new-words.result) c.
 
 pub loop-part-preserved : goal.loop-part-preserved
 loop-part-preserved c =
-    rw c.in-ok-push.ensures.items
-    (kept_more (filled (map (λ x. x.now) c.args.parts.now)) (vec_items c.loop-part.words) c.args.parts.now c.loop-part.part-index _ c.loop-part-test.true c.loop-part.invariant c.if-is-empty.ensures)
+    rw c.in_ok-push.ensures.items
+    (kept_more (filled (map (λ x. x.now) c.args.parts.now)) (vec_items c.loop-part.words) c.args.parts.now c.loop-part.part-index _ c.loop-part-test.true c.loop-part.invariant c.if-is_empty.ensures)
 
-pub loop-part-preserved-then-is-empty : goal.loop-part-preserved-then-is-empty
-loop-part-preserved-then-is-empty c =
-    kept_same (filled (map (λ x. x.now) c.args.parts.now)) (vec_items c.loop-part.words) c.args.parts.now c.loop-part.part-index _ c.loop-part-test.true c.loop-part.invariant c.if-is-empty.ensures
+pub loop-part-preserved-then-is_empty : goal.loop-part-preserved-then-is_empty
+loop-part-preserved-then-is_empty c =
+    kept_same (filled (map (λ x. x.now) c.args.parts.now)) (vec_items c.loop-part.words) c.args.parts.now c.loop-part.part-index _ c.loop-part-test.true c.loop-part.invariant c.if-is_empty.ensures
 
 pub returns : goal.returns
 returns c = kept_all (filled (map (λ x. x.now) c.args.parts.now)) (vec_items c.loop-part.words) c.args.parts.now c.loop-part.part-index c.loop-part-test.false c.loop-part.invariant

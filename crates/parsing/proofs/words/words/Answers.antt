@@ -4,5 +4,5 @@ use Rattle.parsing.proofs.words.words.Goals as goal
 
 pub returns : goal.returns
 returns c =
-    words_from_kept c.args.line.now c.code.result.now (vec_items c.in-ok-parts.parts) c.deref.result.now c.not-empty.result
-    c.deref.ensures.value c.in-ok-parts.ensures c.code.ensures c.not-empty.ensures
+    words_from_kept c.args.line.now c.code.result.now (vec_items c.in_ok-parts.parts) c.deref.result.now c.not_empty.result
+    c.deref.ensures.value c.in_ok-parts.ensures c.code.ensures c.not_empty.ensures

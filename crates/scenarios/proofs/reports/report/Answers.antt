@@ -8,8 +8,8 @@ use Rattle.scenarios.proofs.reports.report.Goals as goal
 
 pub returns : goal.returns
 returns c = λ seed size xs k.
-    let rows = c.in-ok-rows.ensures.value seed size xs k in
+    let rows = c.in_ok-rows.ensures.value seed size xs k in
     let fit : SFits w64 c.sum-sum.result = search rules in
     let n : c.count.result ≡ length xs = c.count.ensures seed size k.records k.keeps ∙ sym (length-map k.records offset_fields) ∙ ap length k.fields_are in
-    let sum : to_z w64 (of_z w64 c.sum-sum.result) ≡ sum_of (sample_rows seed size xs) = rw to_z-of_z (c.sum-sum.ensures ∙ ap (λ rs. sum_of (map row_of rs)) c.as-slice.ensures.value ∙ ap sum_of rows) in
+    let sum : to_z w64 (of_z w64 c.sum-sum.result) ≡ sum_of (sample_rows seed size xs) = rw to_z-of_z (c.sum-sum.ensures ∙ ap (λ rs. sum_of (map row_of rs)) c.as_slice.ensures.value ∙ ap sum_of rows) in
     λ i. told (n i) (rows i) (sum i)

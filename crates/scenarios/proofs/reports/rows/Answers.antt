@@ -14,10 +14,10 @@ loop-i-preserved c =
     let s = c.args.sample.now in
     elim c.match-slot.branch [
       | in-Ok+in-ok-push w ↦ (
-        omega (arith, ap vec_len w.rows-is, w.in-ok-push.ensures.len, c.loop-i.invariant.0),
+        omega (arith, ap vec_len w.rows-is, w.in_ok-push.ensures.len, c.loop-i.invariant.0),
         λ seed size xs k.
             let h : i < size = omega (arith, c.size-i-end.ensures.value seed size k.records k.keeps, c.loop-i-test.true) in
-            ap (λ v. map row_of (vec_items v)) w.rows-is ∙ ap (map row_of) w.in-ok-push.ensures.items
+            ap (λ v. map row_of (vec_items v)) w.rows-is ∙ ap (map row_of) w.in_ok-push.ensures.items
             ∙ map-append row_of (vec_items c.loop-i.rows) _ ∙ ap (λ l. l ++ (i, offset_fields w.in-Ok.offset) ∷ []) (c.loop-i.invariant.1 seed size xs k)
             ∙ sym (row_filled seed size xs i s w.in-Ok.offset k h (λ rs. w.in-Ok.ensures.value seed size rs)),
       )

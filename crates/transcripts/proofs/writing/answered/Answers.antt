@@ -29,8 +29,8 @@ loop-i-preserved c =
     let out = string_bytes c.loop-i.out in
     let rest = answers_text (drop (i + 1) cs) (map said (drop (i + 1) xs)) in
     let line = reply_text (get_or cs i next) (said x) ++ codes "\n" in
-    let written : string_bytes c.push-str.new.self ≡ out ++ line =
-    c.in-ok-push-str.ensures.bytes ∙ ap (λ b. out ++ b) (c.as-str.ensures.value ∙ c.in-ok-line.ensures.ok) in
+    let written : string_bytes c.push_str.new.self ≡ out ++ line =
+    c.in_ok-push_str.ensures.bytes ∙ ap (λ b. out ++ b) (c.as_str.ensures.value ∙ c.in_ok-line.ensures.ok) in
     ap (λ b. b ++ rest) written
     ∙ one_line_more (string_bytes c.args.out.now) (answers_text cs (map said xs)) out line (answers_text (drop i cs) (map said (drop i xs))) rest c.loop-i.invariant
     (answers_next cs xs i next x c.loop-i-test.true l (search rules))

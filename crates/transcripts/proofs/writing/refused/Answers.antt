@@ -6,6 +6,6 @@ pub returns : goal.returns
 returns c =
     let out = string_bytes c.args.out.now in
     let rest = skipped_text c.args.commands.now in
-    c.in-ok-skipped.ensures
-    ∙ ap (λ b. b ++ rest) (c.in-ok-push-str.ensures.bytes ∙ ap (λ b. out ++ b) (c.as-str.ensures.value ∙ c.in-ok-line.ensures.ok))
+    c.in_ok-skipped.ensures
+    ∙ ap (λ b. b ++ rest) (c.in_ok-push_str.ensures.bytes ∙ ap (λ b. out ++ b) (c.as_str.ensures.value ∙ c.in_ok-line.ensures.ok))
     ∙ append_assoc out (refused_text c.args.fault) rest

@@ -13,9 +13,9 @@ loop-command-preserved c =
     let out = string_bytes c.loop-command.out in
     let rest = skipped_text (drop (i + 1) cs) in
     let line = name_of (get_or cs i next) ++ codes " skipped\n" in
-    let written : string_bytes c.push-str.new.self ≡ out ++ line =
-    c.in-ok-push-str.ensures.bytes
-    ∙ ap (λ b. out ++ b) (c.as-str.ensures.value ∙ c.in-ok-line.ensures.ok ∙ ap (λ b. b ++ codes " skipped\n") c.name-name.ensures) in
+    let written : string_bytes c.push_str.new.self ≡ out ++ line =
+    c.in_ok-push_str.ensures.bytes
+    ∙ ap (λ b. out ++ b) (c.as_str.ensures.value ∙ c.in_ok-line.ensures.ok ∙ ap (λ b. b ++ codes " skipped\n") c.name-name.ensures) in
     ap (λ b. b ++ rest) written
     ∙ one_line_more (string_bytes c.args.out.now) (skipped_text cs) out line (skipped_text (drop i cs)) rest c.loop-command.invariant
     (skipped_next cs i next c.loop-command-test.true)

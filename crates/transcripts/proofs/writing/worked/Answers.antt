@@ -6,5 +6,5 @@ use Rattle.transcripts.proofs.writing.worked.Goals as goal
 pub returns : goal.returns
 returns c =
     let rest = answers_text c.args.commands.now (map said c.args.answers.now) in
-    c.in-ok-answered.ensures ∙ ap (λ b. b ++ rest) c.in-ok-push-str.ensures.bytes
+    c.in_ok-answered.ensures ∙ ap (λ b. b ++ rest) c.in_ok-push_str.ensures.bytes
     ∙ append_assoc (string_bytes c.args.out.now) (codes "reservoir ok\n") rest

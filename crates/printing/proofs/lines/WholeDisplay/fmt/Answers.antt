@@ -9,6 +9,6 @@ returns-clause-writes g c = λ plain ok.
     let told = c.args.self.now.0.now in
     let fit : SFits w64 told.sum = search rules in
     has_written_of_eq g.W.Write.write_str_gives c.args.f.now _ _ c.write.new.self
-    (report_text_lem told.count c.as-slice.result.now (vec_items told.rows) c.len.result _ told.sum
-    c.as-slice.ensures.value (c.len.ensures ∙ told.rows.ok.0) (to_z-of_z w64 told.sum fit))
+    (report_text_lem told.count c.as_slice.result.now (vec_items told.rows) c.len.result _ told.sum
+    c.as_slice.ensures.value (c.len.ensures ∙ told.rows.ok.0) (to_z-of_z w64 told.sum fit))
     (c.write.ensures.writes plain ok)

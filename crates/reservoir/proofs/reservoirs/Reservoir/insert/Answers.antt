@@ -6,10 +6,10 @@ use Rattle.reservoir.proofs.reservoirs.Reservoir.insert.Goals as goal
 pub returns : goal.returns
 returns g c = record {
   value = λ seed size rs h.
-      inserted seed size rs c.args.kept c.args.self.now _ c.slot-of-slot.result h c.if-self-ge-COUNT-LIMIT.false (search rules)
-      c.slot-of-slot.ensures.value refl refl refl c.place.ensures;
+      inserted seed size rs c.args.kept c.args.self.now _ c.slot_of-slot.result h c.if-self-ge-COUNT_LIMIT.false (search rules)
+      c.slot_of-slot.ensures.value refl refl refl c.place.ensures;
   law = sample_law _;
 }
 
-pub returns-then-self-ge-COUNT-LIMIT : goal.returns-then-self-ge-COUNT-LIMIT
-returns-then-self-ge-COUNT-LIMIT g c = record { value = search rules; law = sample_law _ }
+pub returns-then-self-ge-COUNT_LIMIT : goal.returns-then-self-ge-COUNT_LIMIT
+returns-then-self-ge-COUNT_LIMIT g c = record { value = search rules; law = sample_law _ }

@@ -6,10 +6,10 @@ use Rattle.reservoir.proofs.reservoirs.Reservoir.new.Goals as goal
 pub returns : goal.returns
 returns g c =
     let low : leb 1 c.args.size ≡ true = le-leb _ _ (omega (arith, c.if-size-eq0.false)) in
-    let high : leb c.args.size 672 ≡ true = le-leb _ _ c.if-size-gt-SLOT-LIMIT.false in
+    let high : leb c.args.size 672 ≡ true = le-leb _ _ c.if-size-gt-SLOT_LIMIT.false in
     rw (low, high) (record {
       seed_is = refl;
       size_is = refl;
       count_is = refl;
-      rows_are = λ i h. c.empty.ensures i (omega (arith, h, c.if-size-gt-SLOT-LIMIT.false)) ∙ rw (newest_none c.args.seed c.args.size i) refl;
+      rows_are = λ i h. c.empty.ensures i (omega (arith, h, c.if-size-gt-SLOT_LIMIT.false)) ∙ rw (newest_none c.args.seed c.args.size i) refl;
     })

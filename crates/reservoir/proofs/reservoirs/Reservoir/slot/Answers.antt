@@ -9,6 +9,6 @@ pub returns : goal.returns
 returns g c =
     let a = c.args.self.now in
     let long : a.size ≤ length a.rows = search rules in
-    let value : (seed size : ℕ) (rs : List _) → Keeps seed size rs a → c.ok-or.result ≡ slot_answer seed size rs c.args.i =
-    λ seed size rs k. looked seed size rs c.args.i a c.index-self-i.result c.refused-2.result c.ok-or.result k c.if-i-self.false long c.refused-2.ensures c.ok-or.ensures.value in
-    record { value = value; rule = λ seed size rs k. slot_rule seed size rs c.args.i c.ok-or.result (value seed size rs k) }
+    let value : (seed size : ℕ) (rs : List _) → Keeps seed size rs a → c.ok_or.result ≡ slot_answer seed size rs c.args.i =
+    λ seed size rs k. looked seed size rs c.args.i a c.index-self-i.result c.refused-2.result c.ok_or.result k c.if-i-self.false long c.refused-2.ensures c.ok_or.ensures.value in
+    record { value = value; rule = λ seed size rs k. slot_rule seed size rs c.args.i c.ok_or.result (value seed size rs k) }

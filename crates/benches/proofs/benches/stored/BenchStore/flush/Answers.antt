@@ -10,8 +10,8 @@ use Rattle.benches.proofs.benches.stored.BenchStore.flush.Goals as goal
 pub returns : goal.returns
 returns c =
     let old = c.args.self.now in
-    let mem = c.settle-all.new.mem in
-    let len : length mem ≡ old.bytes.len = c.settle-all.auto.mem ∙ c.deref-mut.ensures.len in
+    let mem = c.settle_all.new.mem in
+    let len : length mem ≡ old.bytes.len = c.settle_all.auto.mem ∙ c.deref_mut.ensures.len in
     let inside : Inside (length (vec_items old.bytes)) (vec_items old.held) =
     λ i l. (omega (arith, (old.inside i l).0, old.bytes.ok.0), (old.inside i l).1) in
     let all : mem ≡ settled_all (vec_items old.bytes) (vec_items old.held) = cc in

@@ -14,7 +14,7 @@ returns c =
     let old = c.args.self.now in
     let mem = c.pass.new.mem in
     let p : Pass = record { mem = vec_items old.bytes; left = drop old.at (vec_items old.choices) } in
-    let len : length mem ≡ old.bytes.len = c.pass.auto.mem ∙ c.deref-mut.ensures.len in
+    let len : length mem ≡ old.bytes.len = c.pass.auto.mem ∙ c.deref_mut.ensures.len in
     let inside : Inside (length (vec_items old.bytes)) (vec_items old.held) =
     λ i l. (omega (arith, (old.inside i l).0, old.bytes.ok.0), (old.inside i l).1) in
     let went : ◌≡◌ {A = Pass} (record { mem = mem; left = drop c.pass.new.at (vec_items old.choices) }) (passed (vec_items old.held) p old.blocks) = cc in

@@ -30,7 +30,7 @@ returns-then-spend c =
     let old = c.args.self.now in
     let mem = c.hold.new.mem in
     let h : Held = record { block = c.args.block; bytes = c.args.bytes.now } in
-    let len : length mem ≡ old.bytes.len = c.hold.auto.mem ∙ c.deref-mut.ensures.len in
+    let len : length mem ≡ old.bytes.len = c.hold.auto.mem ∙ c.deref_mut.ensures.len in
     let inside : Inside (length (vec_items old.bytes)) (vec_items old.held) =
     λ i l. (omega (arith, (old.inside i l).0, old.bytes.ok.0), (old.inside i l).1) in
     let after : mem ≡ room_mem (vec_items old.bytes) (vec_items old.held) = cc in
@@ -58,7 +58,7 @@ returns c =
     let old = c.args.self.now in
     let mem = c.hold.new.mem in
     let h : Held = record { block = c.args.block; bytes = c.args.bytes.now } in
-    let len : length mem ≡ old.bytes.len = c.hold.auto.mem ∙ c.deref-mut.ensures.len in
+    let len : length mem ≡ old.bytes.len = c.hold.auto.mem ∙ c.deref_mut.ensures.len in
     let inside : Inside (length (vec_items old.bytes)) (vec_items old.held) =
     λ i l. (omega (arith, (old.inside i l).0, old.bytes.ok.0), (old.inside i l).1) in
     let after : mem ≡ room_mem (vec_items old.bytes) (vec_items old.held) = cc in

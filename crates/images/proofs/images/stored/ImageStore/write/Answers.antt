@@ -10,9 +10,9 @@ returns c =
     let from = 504 * c.args.block in
     let k = from + 504 - from in
     let long : 504 * old.blocks ≤ length (vec_items old.bytes) = omega (arith, old.fits, old.bytes.ok.0) in
-    let len : length (put_mid from k c.deref-mut.result.now c.copy-from-slice.new.self) ≡ old.bytes.len =
-    length_put_mid c.deref-mut.result.now c.copy-from-slice.new.self from k (omega arith) (omega arith) ∙ c.deref-mut.ensures.len in
-    let whole : _ ≡ put_mid from k c.deref-mut.result.now c.copy-from-slice.new.self = with_items_is old.bytes (put_mid from k c.deref-mut.result.now c.copy-from-slice.new.self) len in
+    let len : length (put_mid from k c.deref_mut.result.now c.copy_from_slice.new.self) ≡ old.bytes.len =
+    length_put_mid c.deref_mut.result.now c.copy_from_slice.new.self from k (omega arith) (omega arith) ∙ c.deref_mut.ensures.len in
+    let whole : _ ≡ put_mid from k c.deref_mut.result.now c.copy_from_slice.new.self = with_items_is old.bytes (put_mid from k c.deref_mut.result.now c.copy_from_slice.new.self) len in
     record {
       outcome = λ _. record {
         range = search rules;
@@ -22,5 +22,5 @@ returns c =
             image_wrote old.blocks old.on (vec_items old.bytes) _ c.args.bytes.now c.args.block k o h long l (omega arith) (whole ∙ cc);
       };
       state = search rules;
-      memory = whole ∙ copied_is (vec_items old.bytes) c.deref-mut.result.now c.args.bytes.now c.copy-from-slice.new.self c.args.block c.deref-mut.ensures.value c.copy-from-slice.ensures.after;
+      memory = whole ∙ copied_is (vec_items old.bytes) c.deref_mut.result.now c.args.bytes.now c.copy_from_slice.new.self c.args.block c.deref_mut.ensures.value c.copy_from_slice.ensures.after;
     }
