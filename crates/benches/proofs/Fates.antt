@@ -1,7 +1,7 @@
 -- What a restart leaves at each block. Assumes nothing.
-use Rattle.std.proofs.Common.{◌≡◌, ℕ, zero, suc, ◌+◌, ◌-◌, ◌*◌, ◌%◌, ◌<◌, ◌≤◌, Bool, true, false, cond, eqb, leb, ◌⊎◌, List, [], ◌∷◌, ◌++◌, length, get_or, drop, sym, refl, ap, ◌∙◌, subst, inl, inr, ⊎_elim, arith}
-use Rattle.std.proofs.lemmas.Bool.{cases_eq, cond_both, eqb-true, eqb-false, leb-true}
-use Rattle.stores.specs.Meanings.{Content, whole, torn}
+use Rattle.std.proofs.Common.{◌≡◌, ℕ, zero, suc, ◌+◌, ◌-◌, ◌*◌, ◌%◌, ◌<◌, ◌≤◌, cond, eqb, leb, ◌⊎◌, List, [], length, get_or, drop, sym, refl, ◌∙◌, subst, inl, inr, ⊎_elim, arith}
+use Rattle.std.proofs.lemmas.Bool.{cases_eq, cond_both, eqb-false, leb-true}
+use Rattle.stores.specs.Meanings.{Content, whole}
 use Rattle.benches.specs.declared.held.Held.{Held}
 use Rattle.benches.specs.Held.{content, settled, tore, writes_of, Among, Inside}
 use Rattle.benches.specs.Passes.{Pass, kept, decided, passed}

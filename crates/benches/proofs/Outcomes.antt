@@ -1,8 +1,8 @@
 -- What a bench's calls do to its meaning. Assumes nothing.
-use Rattle.std.proofs.Common.{◌≡◌, ℕ, ◌+◌, ◌-◌, ◌*◌, ◌<◌, ◌≤◌, Bool, true, false, cond, eqb, ltb, ◌⊎◌, List, [], ◌∷◌, ◌++◌, length, get_or, vec_items, vec_len, sym, refl, ap, ◌∙◌, subst, inl, inr, ⊎_elim, arith}
+use Rattle.std.proofs.Common.{◌≡◌, ℕ, ◌+◌, ◌-◌, ◌*◌, ◌≤◌, Bool, true, false, cond, eqb, ltb, ◌⊎◌, List, [], ◌∷◌, ◌++◌, length, vec_len, sym, refl, ap, ◌∙◌, subst, inl, inr, ⊎_elim}
 use Rattle.std.proofs.lemmas.Bool.{cases_eq, cond_both, true≢false, false≢true}
-use Rattle.stores.specs.Meanings.{Content, whole, torn, Meaning, Settled, Written}
-use Rattle.stores.specs.Outcomes.{Wrote, Flushed, Restarted}
+use Rattle.stores.specs.Meanings.{Content, whole, Settled, Written}
+use Rattle.stores.specs.Outcomes.{Restarted}
 use Rattle.benches.specs.declared.held.Held.{Held}
 use Rattle.benches.specs.declared.supply.Supply.{Supply}
 use Rattle.benches.specs.Supplies.{started, goes, spent}

@@ -1,11 +1,11 @@
 -- Equations of what a bench holds after a call. Assumes nothing.
-use Rattle.std.proofs.Common.{◌≡◌, ℕ, ◌<◌, Bool, true, false, cond, ◌&&◌, eqb, ltb, List, [], ◌∷◌, ◌++◌, length, sym, refl, ap, ◌∙◌}
+use Rattle.std.proofs.Common.{◌≡◌, ℕ, ◌<◌, true, ◌&&◌, eqb, ltb, List, [], ◌∷◌, ◌++◌, length, sym, refl, ◌∙◌}
 use Rattle.std.proofs.lemmas.Bool.{cond-true, and_from, lt-ltb, eq-eqb}
 use Rattle.benches.specs.declared.held.Held.{Held}
 use Rattle.benches.specs.declared.supply.Supply.{Supply}
 use Rattle.benches.specs.Held.{settled_all, room_mem, room_held}
 use Rattle.benches.specs.Supplies.{spent, goes, started}
-use Rattle.benches.specs.Passes.{Pass, passed}
+use Rattle.benches.specs.Passes.{passed}
 use Rattle.benches.specs.Benches.{View, written, flushed, awoken}
 
 abbrev view : ℕ → List ℕ → List Held → Supply → List ℕ → View

@@ -1,5 +1,5 @@
 -- What a bench holds, what it means, and what each call makes of it. Assumes nothing.
-use Rattle.std.specs.Prelude.{◌≡◌, ℕ, ◌/◌, min, Bool, true, false, cond, ◌&&◌, List, [], ◌∷◌, ◌++◌, length, drop, Ok, Err, vec_items, Result, ◌==◌, nat_lt}
+use Rattle.std.specs.Prelude.{◌≡◌, ℕ, ◌/◌, min, false, cond, ◌&&◌, List, [], ◌∷◌, ◌++◌, length, drop, Ok, Err, vec_items, Result, ◌==◌, nat_lt}
 use Rattle.stores.specs.Meanings.{Meaning}
 use Rattle.benches.specs.declared.held.Held.{Held}
 use Rattle.benches.specs.declared.supply.Supply.{Supply}
@@ -7,7 +7,7 @@ use Rattle.benches.specs.declared.benches.Bench.{Bench}
 use Rattle.benches.specs.declared.benches.Given.{Given}
 use Rattle.benches.specs.Held.{bench_meaning, settled_all, room_mem, room_held}
 use Rattle.benches.specs.Supplies.{started, spent, goes}
-use Rattle.benches.specs.Passes.{Pass, passed}
+use Rattle.benches.specs.Passes.{passed}
 
 -- the size, the memory, the held writes, the supply and the choices left
 pub record View : Type 0 where

@@ -1,5 +1,5 @@
 -- What a restart makes of the memory, the held writes and the choices left. Assumes nothing.
-use Rattle.std.specs.Prelude.{◌≡◌, ℕ, zero, suc, ◌+◌, ◌-◌, ◌%◌, Bool, true, false, cond, List, [], ◌∷◌, length, drop, ◌==◌, nat_le, slice_index, slice_index_or}
+use Rattle.std.specs.Prelude.{ℕ, zero, suc, ◌+◌, ◌-◌, ◌%◌, cond, List, [], length, drop, ◌==◌, nat_le, slice_index, slice_index_or}
 use Rattle.benches.specs.declared.held.Held.{Held}
 use Rattle.benches.specs.Held.{writes_of, settled, tore}
 

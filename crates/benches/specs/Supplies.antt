@@ -1,5 +1,5 @@
 -- How a supply burns its fuses. Assumes nothing.
-use Rattle.std.specs.Prelude.{ℕ, ◌+◌, ◌-◌, Bool, true, false, cond, vec_items, vec_len, ◌==◌, nat_lt, slice_index}
+use Rattle.std.specs.Prelude.{◌+◌, ◌-◌, Bool, true, false, cond, vec_items, vec_len, ◌==◌, nat_lt, slice_index}
 use Rattle.benches.specs.declared.supply.Supply.{Supply}
 
 -- the next fuse, or a lasting supply past the last

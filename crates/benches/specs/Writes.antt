@@ -1,10 +1,10 @@
 -- What held writes bring about. Assumes nothing.
-use Rattle.std.specs.Prelude.{◌≡◌, ℕ, zero, suc, ◌+◌, ◌-◌, ◌*◌, ◌<◌, ◌≤◌, Bool, true, false, cond, ◌⊎◌, List, [], ◌∷◌, ◌++◌, length, ◌==◌, ◌≢◌, slice_index_or, refl}
+use Rattle.std.specs.Prelude.{◌≡◌, ℕ, zero, suc, ◌+◌, ◌*◌, ◌<◌, ◌≤◌, Bool, true, false, cond, ◌⊎◌, List, [], ◌∷◌, ◌++◌, length, ◌==◌, ◌≢◌, slice_index_or, refl}
 use Rattle.std.proofs.Common.{sym, ◌∙◌, ap, subst, inl, inr, ⊎_elim, arith}
 use Rattle.std.proofs.lemmas.Bool.{cases_eq, cond-true, cond-false, eq-eqb, ne_eqb}
 use Rattle.stores.specs.Meanings.{Content, whole, torn}
 use Rattle.benches.specs.declared.held.Held.{Held}
-use Rattle.benches.specs.Held.{content, settled, settled_all, writes_of, latest, Among, Inside, blank}
+use Rattle.benches.specs.Held.{content, settled, settled_all, writes_of, latest, Among, Inside}
 use Rattle.benches.specs.Contents.{settled_here, settled_other, length_settled}
 
 pub hit : (h : Held) (hs : List Held) (b : ℕ) → h.block ≡ b → writes_of (h ∷ hs) b ≡ h.bytes ∷ writes_of hs b

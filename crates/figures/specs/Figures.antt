@@ -1,11 +1,11 @@
 -- The figures that the definitions must give. Assumes nothing.
-use Rattle.std.specs.Prelude.{◌≡◌, ℕ, List, [], ◌∷◌, ℤ, pos, negsuc, Some, None, Ok, Err, Result}
+use Rattle.std.specs.Prelude.{◌≡◌, ℕ, List, [], ◌∷◌, negsuc, Some, None, Ok, Err, Result}
 use Rattle.faults.specs.Numbers.{reason_number, layer_number}
 use Rattle.faults.specs.declared.faults.Fault.{Fault}
 use Rattle.records.specs.Offsets.{Fields, fields_bytes, offset_of, offset_wrong}
 use Rattle.records.specs.Reading.{read_as}
 use Rattle.benches.specs.Held.{settled, tore}
-use Rattle.benches.specs.Passes.{Pass, decided}
+use Rattle.benches.specs.Passes.{decided}
 use Rattle.sampling.specs.Draws.{draw_of, slot_of}
 use Rattle.sampling.specs.Samples.{sample_at}
 

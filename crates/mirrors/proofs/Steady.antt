@@ -1,9 +1,8 @@
 -- A mirror that is sound stays sound, whatever store it is over. Assumes nothing.
-use Rattle.std.proofs.Common.{◌≡◌, ℕ, ◌+◌, ◌/◌, ◌<◌, ◌≤◌, Bool, true, false, ◌⊎◌, List, length, Ok, Err, Result, sym, refl, ap, ◌∙◌, subst, inl, inr, ⊎_elim, arith}
-use Rattle.std.proofs.lemmas.Bool.{cases_eq, cases_lt}
-use Rattle.faults.specs.declared.faults.Layer.{Layer}
-use Rattle.stores.specs.Meanings.{Content, whole, torn, Meaning, Sound, Settled, Same, Cut, Nothing, Written}
-use Rattle.mirrors.specs.Mirrors.{either, Copies, mirror_meaning, Paired, MirrorArises}
+use Rattle.std.proofs.Common.{◌≡◌, ℕ, ◌+◌, ◌/◌, ◌<◌, Bool, true, false, List, sym, refl, ◌∙◌, ⊎_elim, arith}
+use Rattle.std.proofs.lemmas.Bool.{cases_eq}
+use Rattle.stores.specs.Meanings.{Content, whole, torn, Meaning, Sound, Settled, Cut, Written}
+use Rattle.mirrors.specs.Mirrors.{either, mirror_meaning, Paired}
 use Rattle.mirrors.specs.Repairs.{Stored}
 
 either_torn : (x y : Content) → torn ≡ either x y → (x ≡ torn) × (y ≡ torn)

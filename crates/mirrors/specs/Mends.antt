@@ -1,14 +1,13 @@
 -- The steps of a mirror's restart. Assumes nothing.
-use Rattle.std.specs.Prelude.{◌≡◌, ℕ, ◌+◌, ◌/◌, ◌<◌, ◌≤◌, Bool, true, false, ◌⊎◌, List, length, Ok, Err, Result, refl}
-use Rattle.std.proofs.Common.{sym, ◌∙◌, ap, subst, inl, inr, ⊎_elim, arith, rules}
-use Rattle.std.proofs.lemmas.Bool.{cases_eq, cases_lt}
+use Rattle.std.specs.Prelude.{◌≡◌, ℕ, ◌+◌, ◌/◌, Bool, true, false, ◌⊎◌, List, Ok, Err, refl}
+use Rattle.std.proofs.Common.{sym, ◌∙◌, ap, inl, inr, ⊎_elim, arith, rules}
 use Rattle.faults.specs.declared.faults.Fault.{Fault}
 use Rattle.faults.specs.declared.faults.Layer.{Layer}
-use Rattle.stores.specs.Meanings.{Content, whole, torn, Meaning, Lawful, Settled, Lasting, Same, Cut, Nothing, Written}
+use Rattle.stores.specs.Meanings.{Content, whole, torn, Meaning, Lawful, Same, Nothing, Written}
 use Rattle.stores.specs.Outcomes.{Answer, Failed, Restarted}
 use Rattle.stores.proofs.Sameness.{settled_same}
-use Rattle.mirrors.specs.Mirrors.{either, Copies, mirror_meaning, Paired, MirrorArises}
-use Rattle.mirrors.specs.Repairs.{Ready, Stored, StoreOutcome, Probed, Twins, Repaired, Mending, RepairOutcome, Halves, Mended, MendFailed}
+use Rattle.mirrors.specs.Mirrors.{either, mirror_meaning, MirrorArises}
+use Rattle.mirrors.specs.Repairs.{Stored, StoreOutcome, Probed, Twins, Repaired, Mending, RepairOutcome, Halves, Mended, MendFailed}
 
 pub twins_same : {m k : Meaning} {a b : ℕ} → Twins m a b → Same m k → Twins k a b
 twins_same t s =

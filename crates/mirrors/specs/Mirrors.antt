@@ -1,5 +1,5 @@
 -- What a mirror means, by what the store below it means. Assumes nothing.
-use Rattle.std.specs.Prelude.{◌≡◌, ℕ, ◌+◌, ◌/◌, ◌<◌, Bool, true, List}
+use Rattle.std.specs.Prelude.{◌≡◌, ℕ, ◌+◌, ◌/◌, ◌<◌, Bool, true}
 use Rattle.stores.specs.Meanings.{Content, whole, torn, Meaning, Settled}
 
 -- the first copy, or the second if the first is torn

@@ -1,9 +1,9 @@
 -- How a mirror writes a block, and how its restart makes the two copies of each block alike. Assumes nothing.
-use Rattle.std.specs.Prelude.{◌≡◌, ℕ, ◌+◌, ◌/◌, ◌<◌, ◌≤◌, Bool, true, false, ◌⊎◌, List, length, Ok, Err, Result, ◌≢◌}
+use Rattle.std.specs.Prelude.{◌≡◌, ℕ, ◌+◌, ◌<◌, ◌≤◌, Bool, true, false, ◌⊎◌, List, length, Ok, Err, Result, ◌≢◌}
 use Rattle.faults.specs.declared.faults.Fault.{Fault}
 use Rattle.faults.specs.declared.faults.Layer.{Layer}
 use Rattle.faults.specs.declared.faults.Reason.TheVariants.{Off}
-use Rattle.stores.specs.Meanings.{Content, whole, torn, Meaning, Settled, Lasting, Same, Cut, Nothing, Written}
+use Rattle.stores.specs.Meanings.{Content, whole, torn, Meaning, Settled, Lasting, Same, Nothing, Written}
 use Rattle.stores.specs.Outcomes.{Answer, fault, Failed}
 use Rattle.mirrors.specs.Mirrors.{either, Copies}
 

@@ -1,9 +1,9 @@
 -- A text that was cut at a byte, and its pieces. Assumes nothing.
-use Rattle.std.proofs.Common.{◌≡◌, ℕ, suc, ◌+◌, ◌<◌, ◌≤◌, true, false, cond, eqb, List, [], ◌∷◌, ◌++◌, map, length, get_or, drop, IfSome, IfOk, Some, None, Ok, Err, vec_items, vec_len, Option, Result, Vec, sym, refl, ap, ◌∙◌, arith, Bor}
+use Rattle.std.proofs.Common.{◌≡◌, ℕ, suc, ◌+◌, ◌<◌, ◌≤◌, true, false, eqb, List, [], ◌∷◌, ◌++◌, map, length, get_or, drop, IfSome, IfOk, Some, None, Ok, Err, vec_items, vec_len, Option, Result, Vec, sym, refl, ap, ◌∙◌, arith, Bor}
 use Rattle.std.specs.Option as options
 use Rattle.std.specs.Str.Iter.{LacksByte, IsSplitnRun, CutsAtEveryByte}
 use Rattle.std.specs.List.{join_with_byte}
-use Rattle.std.specs.Iterator.Runs.{Run, AllItems, WholeRun, EachRunFrom}
+use Rattle.std.specs.Iterator.Runs.{Run, WholeRun, EachRunFrom}
 use Rattle.std.proofs.lemmas.List.{length-map, get_or-map, map-append, append_assoc, append-nil, drop_more, drop_all}
 use Rattle.std.proofs.lemmas.Bool.{ne_eqb, eq-eqb, eqb-true}
 use Rattle.parsing.specs.Words.{cut, first, filled, uncommented, words_of}

@@ -8,7 +8,6 @@ use Rattle.script.specs.declared.commands.Command.{Command}
 use Rattle.parsing.specs.declared.forms.Line.{Line}
 use Rattle.parsing.specs.declared.forms.Line.TheVariants.{Reservoir, Asks}
 use Rattle.script.specs.declared.commands.Scenario.{Scenario}
-use Rattle.script.specs.declared.expectations.BadLine.{BadLine}
 use Rattle.script.specs.declared.expectations.Expected.{Expected}
 use Rattle.script.specs.declared.expectations.Unread.{Unread}
 use Rattle.script.specs.declared.expectations.Unread.TheVariants.{Bad, Memory}

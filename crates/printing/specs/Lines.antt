@@ -1,5 +1,5 @@
 -- What is printed of a command and its answer. Assumes nothing.
-use Rattle.std.specs.Prelude.{ℕ, cond, List, [], ◌∷◌, ◌++◌, length, ℤ, Some, None, codes, decimal, Option, ◌==◌}
+use Rattle.std.specs.Prelude.{ℕ, cond, List, [], ◌∷◌, ◌++◌, length, ℤ, Some, None, codes, decimal, ◌==◌}
 use Rattle.std.specs.Fmt.{signed_decimal}
 use Rattle.faults.specs.Numbers.{reason_number, layer_number}
 use Rattle.faults.specs.declared.faults.Fault.{Fault}

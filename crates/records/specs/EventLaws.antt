@@ -1,10 +1,10 @@
 -- An event record's bytes are its own. Assumes nothing.
-use Rattle.std.specs.Prelude.{◌≡◌, ℕ, zero, suc, ◌+◌, ◌*◌, ◌^◌, ◌<◌, Bool, true, false, List, [], ◌∷◌, length, None, ◌==◌, ◌≢◌, slice_index, slice_index_or, refl}
+use Rattle.std.specs.Prelude.{◌≡◌, ℕ, zero, suc, ◌+◌, ◌*◌, ◌^◌, ◌<◌, true, List, [], ◌∷◌, None, ◌==◌, ◌≢◌, slice_index, slice_index_or, refl}
 use Rattle.std.proofs.Common.{arith, sym, ◌∙◌, ap, lit<}
 use Rattle.std.proofs.lemmas.Bool.Decides.{nat_tests}
 use Rattle.records.specs.Bytes.{four_at, Twelve}
 use Rattle.records.specs.Events.{Happening, event_fields, happening_bytes, event_bytes, event_wrong, is_code, is_party}
-use Rattle.records.specs.Fields.{is_second, is_satellite}
+use Rattle.records.specs.Fields.{is_second}
 use Rattle.records.specs.Reading.{first_wrong}
 use Rattle.records.specs.declared.events.Event.{Event}
 use Rattle.records.specs.declared.events.Event.TheVariants.{LockLost, LockGained, Holdover}

@@ -1,5 +1,5 @@
 -- An event record's fields and bytes. Assumes nothing.
-use Rattle.std.specs.Prelude.{ℕ, ◌+◌, Bool, cond, ◌&&◌, ◌||◌, List, [], ◌∷◌, Option, Result, ◌==◌, nat_le, slice_index}
+use Rattle.std.specs.Prelude.{ℕ, ◌+◌, Bool, cond, ◌&&◌, List, [], ◌∷◌, Option, Result, ◌==◌, nat_le, slice_index}
 use Rattle.faults.specs.declared.faults.Fault.{Fault}
 use Rattle.records.specs.Bytes.{four, four_at}
 use Rattle.records.specs.Fields.{second_of, satellite_of, is_second, is_satellite}

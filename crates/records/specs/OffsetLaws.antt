@@ -1,12 +1,12 @@
 -- An offset record's bytes are its own. Assumes nothing.
-use Rattle.std.specs.Prelude.{◌≡◌, ℕ, ◌+◌, ◌*◌, ◌/◌, ◌%◌, ◌^◌, ◌<◌, Bool, true, false, cond, List, [], ◌∷◌, length, ℤ, None, ◌==◌, slice_index, slice_index_or, refl}
-use Rattle.std.proofs.Common.{arith, mod-lt, sym, ◌∙◌, ap, lit<, to_z, of_z}
+use Rattle.std.specs.Prelude.{◌≡◌, ℕ, ◌+◌, ◌*◌, ◌<◌, true, List, [], ◌∷◌, ℤ, None, ◌==◌, slice_index, slice_index_or, refl}
+use Rattle.std.proofs.Common.{arith, sym, ◌∙◌, ap, lit<, to_z, of_z}
 use Rattle.std.specs.Int.{w32}
 use Rattle.std.proofs.lemmas.Int.{ints, to_z-of_z, of_z-to_z}
 use Rattle.std.proofs.lemmas.Bool.Decides.{nat_tests}
-use Rattle.records.specs.Bytes.{four, four_at, Twelve}
-use Rattle.records.specs.Fields.{second_of, satellite_of, nanoseconds_of, is_second, is_satellite, is_nanoseconds}
-use Rattle.records.specs.Offsets.{Fields, offset_fields, fields_bytes, offset_bytes, offset_wrong}
+use Rattle.records.specs.Bytes.{four_at, Twelve}
+use Rattle.records.specs.Fields.{second_of, nanoseconds_of, is_second, is_satellite, is_nanoseconds}
+use Rattle.records.specs.Offsets.{offset_fields, fields_bytes, offset_bytes, offset_wrong}
 use Rattle.records.specs.Reading.{first_wrong}
 use Rattle.records.specs.declared.offsets.Offset.{Offset}
 use Rattle.records.specs.FieldLaws.{same_second, same_satellite, same_nanoseconds, second_in_lem, satellite_in_lem, nanoseconds_in_lem, a_second, a_satellite, a_nanoseconds, nanoseconds_fit}

@@ -4,7 +4,7 @@ use Rattle.std.proofs.lemmas.Bool.{eqb-true, eq-eqb, true≢false, lt-ltb}
 use Rattle.faults.specs.declared.faults.Fault.{Fault}
 use Rattle.sampling.specs.Answers.{has_room, counted, insert_answer}
 use Rattle.sampling.specs.Draws.{slot_of}
-use Rattle.sampling.specs.Samples.{sample_at, is_slot}
+use Rattle.sampling.specs.Samples.{is_slot}
 use Rattle.sampling.proofs.SampleLaws.{sample_one_more}
 use Rattle.reservoir.specs.Keeps.{Rows, Keeps, placed}
 use Rattle.reservoir.specs.declared.reservoirs.Reservoir.{Reservoir}

@@ -4,7 +4,7 @@ use Rattle.std.specs.Option.{ok_or}
 use Rattle.faults.specs.declared.faults.Fault.{Fault}
 use Rattle.faults.specs.declared.faults.Layer.TheVariants.{Sampler}
 use Rattle.faults.specs.declared.faults.Reason.{Reason}
-use Rattle.faults.specs.declared.faults.Reason.TheVariants.{OutOfLimits, CountAtLimit, NoSuchSlot, EmptySlot}
+use Rattle.faults.specs.declared.faults.Reason.TheVariants.{CountAtLimit, NoSuchSlot, EmptySlot}
 use Rattle.sampling.specs.Draws.{slot_of}
 use Rattle.sampling.specs.Samples.{sample_at}
 

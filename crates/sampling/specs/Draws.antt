@@ -1,5 +1,5 @@
 -- SplitMix64's draws, with sums and products modulo 2^64, and the slots of numbered records. Assumes nothing.
-use Rattle.std.specs.Prelude.{ℕ, zero, suc, ◌+◌, ◌-◌, ◌*◌, ◌/◌, ◌%◌, ◌^◌, Bool, cond, Some, None, Option, bit_xor, nat_lt}
+use Rattle.std.specs.Prelude.{ℕ, zero, suc, ◌+◌, ◌-◌, ◌*◌, ◌/◌, ◌%◌, ◌^◌, cond, Some, None, Option, bit_xor, nat_lt}
 
 -- sums and products modulo 2^64
 abbrev pub sum64 : ℕ → ℕ → ℕ

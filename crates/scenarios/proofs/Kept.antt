@@ -1,5 +1,5 @@
 -- What a reservoir's answers say of the fields of the records that it keeps. Assumes nothing.
-use Rattle.std.proofs.Common.{◌≡◌, ℕ, List, map, Some, None, Ok, Err, Option, Result, sym, refl, ap, ◌∙◌, arith}
+use Rattle.std.proofs.Common.{◌≡◌, ℕ, List, Some, None, Ok, Option, Result, sym, ap, ◌∙◌, arith}
 use Rattle.faults.specs.declared.faults.Fault.{Fault}
 use Rattle.records.specs.Offsets.{Fields, offset_fields}
 use Rattle.records.specs.Reading.{judged, shown_as}

@@ -1,15 +1,13 @@
 -- A scenario's start, one command more, and its end. Assumes nothing.
-use Rattle.std.proofs.Common.{◌≡◌, ℕ, ◌+◌, ◌<◌, ◌≤◌, Bool, true, false, cond, List, [], ◌∷◌, ◌++◌, map, length, get_or, drop, Ok, Err, sym, refl, ap, ◌∙◌, append_assoc, add-one, drop-cons}
+use Rattle.std.proofs.Common.{◌≡◌, ℕ, ◌+◌, ◌<◌, Bool, true, false, cond, List, [], ◌∷◌, ◌++◌, map, length, get_or, drop, Ok, sym, refl, ap, ◌∙◌, append_assoc, add-one, drop-cons}
 use Rattle.std.proofs.lemmas.List.{append-nil, map-append}
-use Rattle.faults.specs.declared.faults.Fault.{Fault}
-use Rattle.faults.specs.declared.faults.Reason.TheVariants.{OutOfLimits}
 use Rattle.records.specs.Offsets.{Fields}
 use Rattle.records.specs.declared.offsets.Offset.{Offset}
 use Rattle.reservoir.specs.Keeps.{Keeps, Made}
 use Rattle.reservoir.specs.declared.reservoirs.Reservoir.{Reservoir}
-use Rattle.sampling.specs.Answers.{is_size, refusal}
+use Rattle.sampling.specs.Answers.{is_size}
 use Rattle.script.specs.declared.commands.Command.{Command}
-use Rattle.scenarios.specs.Replies.{Reply, reply_to, after, replies}
+use Rattle.scenarios.specs.Replies.{reply_to, after, replies}
 use Rattle.scenarios.specs.Worked.{KeepsFields, said}
 use Rattle.scenarios.specs.declared.answers.Answer.{Answer}
 

@@ -1,5 +1,5 @@
 -- What working a scenario answers. Assumes nothing.
-use Rattle.std.specs.Prelude.{◌≡◌, ℕ, true, false, List, [], map, ℤ, Ok, Err, vec_items, Result}
+use Rattle.std.specs.Prelude.{◌≡◌, ℕ, true, false, List, [], map, Ok, Err, vec_items, Result}
 use Rattle.std.specs.Global.{Vec}
 use Rattle.faults.specs.declared.faults.Reason.TheVariants.{OutOfLimits}
 use Rattle.records.specs.Offsets.{Fields, offset_fields}

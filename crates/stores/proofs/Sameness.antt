@@ -1,5 +1,5 @@
 -- Meanings between which nothing changed. Assumes nothing.
-use Rattle.std.proofs.Common.{◌≡◌, ℕ, ◌<◌, sym, ◌∙◌}
+use Rattle.std.proofs.Common.{sym, ◌∙◌}
 use Rattle.stores.specs.Meanings.{Meaning, Settled, Same}
 
 pub same_trans : {m k n : Meaning} → Same m k → Same k n → Same m n

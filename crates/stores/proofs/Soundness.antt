@@ -1,8 +1,8 @@
 -- What leaves a sound store sound, whatever the store is. Assumes nothing.
-use Rattle.std.proofs.Common.{◌≡◌, ℕ, ◌<◌, ◌≤◌, Bool, true, false, ◌⊎◌, List, length, Ok, Err, sym, refl, ◌∙◌, inl, inr, ⊎_elim}
+use Rattle.std.proofs.Common.{◌≡◌, ℕ, Bool, true, false, List, length, Ok, Err, refl, ◌∙◌, ⊎_elim}
 use Rattle.std.proofs.lemmas.Bool.{cases_eq, cases_lt}
 use Rattle.faults.specs.declared.faults.Layer.{Layer}
-use Rattle.stores.specs.Meanings.{Content, torn, Meaning, Sound, Settled, Same, Cut, Nothing}
+use Rattle.stores.specs.Meanings.{torn, Meaning, Sound, Settled, Same, Cut, Nothing}
 use Rattle.stores.specs.Outcomes.{Answer, ReadServed, ReadOutcome, FlushServed, FlushOutcome, RestartOutcome}
 
 module _ (m n : Meaning) (sound : Sound m) where

@@ -1,4 +1,4 @@
-use Rattle.std.proofs.Common.{◌≡◌, ◌+◌, [], ◌++◌, map, drop, Ok, vec_items, string_bytes, sym, refl, ap, ◌∙◌}
+use Rattle.std.proofs.Common.{◌≡◌, ◌+◌, [], ◌++◌, map, drop, Ok, vec_items, string_bytes, sym, ap, ◌∙◌}
 use Rattle.parsing.specs.Scripts.{plan_of}
 use Rattle.transcripts.specs.Transcripts.{scenario_text, scenarios_text, printed}
 use Rattle.transcripts.proofs.Texts.{one_line_more, all_written, scenarios_next, scenarios_end}

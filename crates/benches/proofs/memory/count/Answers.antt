@@ -1,4 +1,4 @@
-use Rattle.std.proofs.Common.{length, ap, arith, rules}
+use Rattle.std.proofs.Common.{length, ap, arith}
 use Rattle.benches.proofs.Steps.{writes_hit, writes_miss, writes_end}
 use Rattle.benches.proofs.memory.count.Goals as goal
 use Rattle.benches.proofs.memory.count.Goals.{then-h-block, else-h-block}

@@ -1,4 +1,4 @@
-use Rattle.std.proofs.Common.{◌≡◌, ◌-◌, sym, ap, ◌∙◌, subst, arith, rules}
+use Rattle.std.proofs.Common.{◌-◌, sym, ap, ◌∙◌, subst, arith}
 use Rattle.stores.specs.Meanings.{Content, whole}
 use Rattle.benches.specs.Held.{writes_of, content, Fetched}
 use Rattle.benches.proofs.Steps.{latest_none, latest_last}

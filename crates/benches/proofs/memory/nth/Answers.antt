@@ -1,4 +1,4 @@
-use Rattle.std.proofs.Common.{◌≡◌, [], length, ap, arith, rules}
+use Rattle.std.proofs.Common.{arith}
 use Rattle.benches.proofs.Steps.{writes_hit, writes_miss, writes_end, nth_here, nth_past, nth_same}
 use Rattle.benches.proofs.memory.nth.Goals as goal
 use Rattle.benches.proofs.memory.nth.Goals.{then-h-block+else-left-eq0, else-h-block}

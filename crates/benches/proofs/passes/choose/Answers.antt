@@ -1,4 +1,4 @@
-use Rattle.std.proofs.Common.{◌≡◌, ℕ, List, get_or, drop, sym, ap, ◌∙◌, add-zero, rules}
+use Rattle.std.proofs.Common.{ℕ, List, get_or, drop, sym, ap, ◌∙◌, add-zero}
 use Rattle.std.proofs.lemmas.List.{drop_all, drop-drop, get_or-drop}
 use Rattle.benches.proofs.passes.choose.Goals as goal
 

@@ -1,4 +1,4 @@
-use Rattle.std.proofs.Common.{◌≡◌, drop, sym, ap, ◌∙◌, add-one, rules}
+use Rattle.std.proofs.Common.{drop, sym, ap, ◌∙◌, add-one}
 use Rattle.benches.specs.Held.{writes_of}
 use Rattle.benches.specs.Passes.{Pass, decided, passed}
 use Rattle.benches.proofs.passes.pass.Goals as goal

@@ -1,4 +1,4 @@
-use Rattle.std.proofs.Common.{◌≡◌, length, drop}
+use Rattle.std.proofs.Common.{◌≡◌, drop}
 use Rattle.benches.specs.Passes.{Pass, passed}
 use Rattle.benches.proofs.passes.pass.Given as goal
 

@@ -7,12 +7,12 @@ returns-in-Ok c =
     number_read c.args.radix c.args.most c.args.word.now (no_plus _ c.starts_with.result c.starts_with.ensures.cases c.if-starts_with.false)
     c.in-Ok.n c.in-Ok.ensures.value c.if-n-most.true
 
-pub returns-in-default : goal.returns-in-default
-returns-in-default c =
+pub returns-in_default : goal.returns-in_default
+returns-in_default c =
     number_over c.args.radix c.args.most c.args.word.now (no_plus _ c.starts_with.result c.starts_with.ensures.cases c.if-starts_with.false)
     c.in-Ok.n c.in-Ok.ensures.value c.if-n-most.false
 
-pub returns-in-default·2 : goal.returns-in-default·2
-returns-in-default·2 c =
+pub returns-in_default-2 : goal.returns-in_default-2
+returns-in_default-2 c =
     number_none c.args.radix c.args.most c.args.word.now (no_plus _ c.starts_with.result c.starts_with.ensures.cases c.if-starts_with.false)
-    c.in-default.ensures.value (omega arith)
+    c.in_default.ensures.value (omega arith)

@@ -1,4 +1,4 @@
-use Rattle.std.proofs.Common.{map, vec_items, arith}
+use Rattle.std.proofs.Common.{map, vec_items}
 use Rattle.std.proofs.lemmas.Result.{err_from_is_err_and}
 use Rattle.parsing.specs.Scripts.{plan_of}
 use Rattle.parsing.proofs.Plans.{reading_begins, reading_more, reading_ends, reading_done}

@@ -1,4 +1,4 @@
-use Rattle.std.proofs.Common.{Some, None, sym, ap, ◌∙◌, arith}
+use Rattle.std.proofs.Common.{Some, None, arith}
 use Rattle.std.proofs.lemmas.Str.Pattern.{split_parts}
 use Rattle.parsing.proofs.Cuts.{uncommented_front, uncommented_whole}
 use Rattle.parsing.proofs.words.code.Goals as goal

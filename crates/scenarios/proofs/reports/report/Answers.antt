@@ -2,7 +2,7 @@ use Rattle.std.proofs.Common.{◌≡◌, map, length, sym, ap, ◌∙◌, w64, S
 use Rattle.std.proofs.lemmas.List.{length-map}
 use Rattle.std.proofs.lemmas.Int.{to_z-of_z}
 use Rattle.records.specs.Offsets.{offset_fields}
-use Rattle.scenarios.specs.Replies.{Reply, told, sum_of, sample_rows}
+use Rattle.scenarios.specs.Replies.{told, sum_of, sample_rows}
 use Rattle.scenarios.specs.Worked.{row_of}
 use Rattle.scenarios.proofs.reports.report.Goals as goal
 

@@ -1,4 +1,4 @@
-use Rattle.std.proofs.Common.{◌≡◌, ◌+◌, ◌*◌, map, take, ℤ, pos, negsuc, ◌+ℤ◌, ◌≤ℤ◌, sym, ap, ◌∙◌, subst, take_all, w32, w64, SFits, to_z, of_z, rules}
+use Rattle.std.proofs.Common.{◌≡◌, ◌+◌, ◌*◌, map, take, ℤ, pos, negsuc, ◌+ℤ◌, ◌≤ℤ◌, sym, ap, ◌∙◌, subst, take_all, w32, w64, SFits, rules}
 use Rattle.scenarios.specs.Replies.{sum_of}
 use Rattle.scenarios.specs.Worked.{row_of}
 use Rattle.scenarios.proofs.Rows.{sum_more, low_more, high_more, cast_sum}

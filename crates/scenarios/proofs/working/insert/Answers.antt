@@ -1,4 +1,4 @@
-use Rattle.std.proofs.Common.{◌≡◌, ℕ, ℤ, Ok, Err, Result, w32, SFits, rules}
+use Rattle.std.proofs.Common.{◌≡◌, Ok, Err, Result, w32, SFits, rules}
 use Rattle.std.proofs.lemmas.Int.{to_z-of_z}
 use Rattle.faults.specs.declared.faults.Fault.{Fault}
 use Rattle.records.specs.Offsets.{Fields, offset_fields, offset_of, wrong_fields}

@@ -1,4 +1,4 @@
-use Rattle.std.proofs.Common.{◌≡◌, ◌+◌, [], ◌++◌, map, get_or, drop, pos, vec_items, sym, refl, ap, ◌∙◌, rules}
+use Rattle.std.proofs.Common.{◌+◌, [], ◌++◌, map, get_or, drop, pos, vec_items, sym, ap, ◌∙◌}
 use Rattle.std.proofs.lemmas.List.{drop_all}
 use Rattle.script.specs.declared.commands.Command.TheVariants.{Insert}
 use Rattle.scenarios.specs.Replies.{replies, after}

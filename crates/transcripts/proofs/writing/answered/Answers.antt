@@ -1,4 +1,4 @@
-use Rattle.std.proofs.Common.{◌≡◌, ◌+◌, ◌<◌, ◌≤◌, ◌++◌, map, length, get_or, drop, pos, string_bytes, codes, sym, refl, ap, ◌∙◌, arith, rules, ltb-true}
+use Rattle.std.proofs.Common.{◌≡◌, ◌+◌, ◌<◌, ◌≤◌, ◌++◌, map, length, get_or, drop, pos, string_bytes, codes, ap, ◌∙◌, arith, rules}
 use Rattle.std.proofs.lemmas.Bool.Decides.{nat_tests}
 use Rattle.printing.specs.Lines.{reply_text}
 use Rattle.script.specs.declared.commands.Command.TheVariants.{Insert}
@@ -7,12 +7,12 @@ use Rattle.transcripts.specs.Transcripts.{answers_text}
 use Rattle.transcripts.proofs.Texts.{one_line_more, all_written, answers_next, answers_end, commands_end}
 use Rattle.transcripts.proofs.writing.answered.Goals as goal
 
-pub returns-in-default : goal.returns-in-default
-returns-in-default c =
+pub returns-in_default : goal.returns-in_default
+returns-in_default c =
     let cs = c.args.commands.now in
     let xs = c.args.answers.now in
     let i = c.loop-i.i in
-    let e = c.in-default.ensures.lookup.0 in
+    let e = c.in_default.ensures.lookup.0 in
     let h : length xs ≤ i = grind (arith, nat_tests) in
     all_written (string_bytes c.args.out.now) (answers_text cs (map said xs)) (string_bytes c.loop-i.out) _ c.loop-i.invariant (answers_end cs xs i h)
 

@@ -1,4 +1,4 @@
-use Rattle.std.proofs.Common.{◌≡◌, ◌+◌, ◌<◌, ◌≤◌, ◌++◌, length, get_or, drop, pos, string_bytes, codes, sym, refl, ap, ◌∙◌, rules}
+use Rattle.std.proofs.Common.{◌≡◌, ◌+◌, ◌++◌, get_or, drop, pos, string_bytes, codes, ap, ◌∙◌}
 use Rattle.printing.specs.Lines.{name_of}
 use Rattle.script.specs.declared.commands.Command.TheVariants.{Insert}
 use Rattle.transcripts.specs.Transcripts.{skipped_text}

@@ -1,4 +1,4 @@
-use Rattle.std.proofs.Common.{◌≡◌, length, sym, refl, ap, ◌∙◌, arith, rules}
+use Rattle.std.proofs.Common.{◌≡◌, sym, refl, ap, ◌∙◌, arith, rules}
 use Rattle.stores.specs.Meanings.{whole}
 use Rattle.mirrors.specs.Mends.{twins_same, already, second_put, first_put, probed_whole, probed_torn, probed_same}
 use Rattle.stores.proofs.Sameness.{same_trans}
@@ -16,7 +16,7 @@ returns-then-eq g c =
           let p = probed_whole g.S.Store.source m k c.args.first c.probe.new.buf _ c.if-one_whole.true (c.in_ok-one_whole.ensures.outcome ar tw.first refl tw.on) in
           let u = twins_same tw p.1 in
           let q = probed_whole g.S.Store.source k n c.args.second c.probe-2.new.buf _ c.if-two_whole.true (c.in_ok-two_whole.ensures.outcome (c.in_ok-one_whole.ensures.state ar) u.second refl u.on) in
-          let e : c.probe.new.buf ≡ c.probe-2.new.buf = let d = slice_eq-Decides Decides-eqb _ _ _ c.eq.ensures in search rules in
+          let e : c.probe.new.buf ≡ c.probe-2.new.buf = (slice_eq-Decides Decides-eqb c.probe.new.buf c.probe-2.new.buf c.eq.result c.eq.ensures).0 c.if-eq.true in
           already g.S.Store.source m n n c.args.first c.args.second tw (same_trans p.1 q.1) c.probe.new.buf p.0 (sym (p.1.reads c.args.second tw.second) ∙ q.0 ∙ ap whole (sym e));
       state = search rules;
     }

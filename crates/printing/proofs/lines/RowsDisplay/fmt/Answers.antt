@@ -14,7 +14,7 @@ loop-row-preserved g c = λ plain.
     let p = c.loop-row.invariant plain in
     has_written_of_eq took c.args.f.now _ _ c.write.new.self (sym (rows_more rows i x c.loop-row-test.true c.row-item.is))
     (has_written_append took c.args.f.now (rows_text (map row_of (take i rows))) c.loop-row.f (row_text (row_of x)) c.write.new.self p
-    (c.in_ok-write.ensures.shows p.plain refl))
+    (c.in_ok-write.ensures.writes p.plain refl))
 
 pub returns-clause-writes : goal.returns-clause-writes
 returns-clause-writes g c = λ plain ok.

@@ -1,4 +1,4 @@
-use Rattle.std.proofs.Common.{◌≡◌, ℕ, ◌+◌, ◌<◌, length, get_or, ap, ◌∙◌, rules}
+use Rattle.std.proofs.Common.{◌≡◌, ◌+◌, get_or, ap, ◌∙◌, rules}
 use Rattle.records.specs.Bytes.{four_at, Twelve}
 use Rattle.records.specs.Events.{event_fields, event_bytes, event_wrong, wrong_happening}
 use Rattle.records.specs.EventLaws.{right, read_back}

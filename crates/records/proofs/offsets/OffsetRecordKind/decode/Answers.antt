@@ -1,8 +1,8 @@
-use Rattle.std.proofs.Common.{◌≡◌, ℕ, ◌+◌, ◌<◌, length, get_or, ℤ, ◌∙◌, arith, w32, SFits, to_z, rules}
+use Rattle.std.proofs.Common.{◌≡◌, ◌+◌, get_or, ◌∙◌, w32, SFits, to_z, rules}
 use Rattle.std.proofs.lemmas.Int.{to_z-of_z}
 use Rattle.records.specs.Bytes.{four_at, Twelve}
 use Rattle.records.specs.Fields.{is_second, is_satellite, is_nanoseconds, nanoseconds_of}
-use Rattle.records.specs.Offsets.{offset_fields, offset_bytes, offset_wrong}
+use Rattle.records.specs.Offsets.{offset_bytes, offset_wrong}
 use Rattle.records.specs.declared.offsets.Offset.{Offset}
 use Rattle.records.specs.FieldLaws.{made_of}
 use Rattle.records.specs.OffsetLaws.{right, read_back}

@@ -1,4 +1,4 @@
-use Rattle.std.proofs.Common.{◌<◌, ◌≤◌, refl, rules}
+use Rattle.std.proofs.Common.{refl, rules}
 use Rattle.sampling.proofs.SampleLaws.{sample_law}
 use Rattle.reservoir.proofs.OneMore.{inserted}
 use Rattle.reservoir.proofs.reservoirs.Reservoir.insert.Goals as goal

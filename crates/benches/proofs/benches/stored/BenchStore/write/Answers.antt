@@ -8,22 +8,11 @@ use Rattle.benches.proofs.Views.{written_is}
 use Rattle.benches.proofs.Outcomes.{holding, inside_held, spent_go, spent_cut, spent_lasts}
 use Rattle.benches.proofs.benches.stored.BenchStore.write.Goals as goal
 
-pub invariant-of-self : goal.invariant-of-self
-invariant-of-self c =
+pub invariant_of-self-clause-inside : goal.invariant_of-self-clause-inside
+invariant_of-self-clause-inside c =
     let old = c.args.self.now in
-    let h : Held = record { block = c.args.block; bytes = c.args.bytes.now } in (
-      search rules,
-      (
-        search rules,
-        (
-          search rules,
-          (
-            search rules,
-            (inside_held (vec_len old.bytes) (vec_items old.held) (vec_items c.hold.new.held) h old.inside c.hold.ensures.items (omega (arith, old.fits)) (omega arith), tt),
-          ),
-        ),
-      ),
-    )
+    let h : Held = record { block = c.args.block; bytes = c.args.bytes.now } in
+    inside_held (vec_len old.bytes) (vec_items old.held) (vec_items c.hold.new.held) h old.inside c.hold.ensures.items (omega (arith, old.fits)) (omega arith)
 
 pub returns-then-spend : goal.returns-then-spend
 returns-then-spend c =

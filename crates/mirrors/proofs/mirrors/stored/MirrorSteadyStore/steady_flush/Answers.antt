@@ -1,5 +1,5 @@
 use Rattle.mirrors.specs.Mirrors.{mirror_meaning}
-use Rattle.stores.proofs.Soundness.{sound_read, sound_flush, sound_restart}
+use Rattle.stores.proofs.Soundness.{sound_flush}
 use Rattle.mirrors.proofs.Steady.{paired_settled}
 use Rattle.mirrors.proofs.mirrors.stored.MirrorSteadyStore.steady_flush.Goals as goal
 

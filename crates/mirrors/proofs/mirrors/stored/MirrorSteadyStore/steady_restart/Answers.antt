@@ -1,6 +1,5 @@
 use Rattle.mirrors.specs.Mirrors.{mirror_meaning}
-use Rattle.stores.proofs.Soundness.{sound_read, sound_flush, sound_restart}
-use Rattle.mirrors.proofs.Steady.{paired_settled}
+use Rattle.stores.proofs.Soundness.{sound_restart}
 use Rattle.mirrors.proofs.mirrors.stored.MirrorSteadyStore.steady_restart.Goals as goal
 
 pub returns : goal.returns

@@ -1,4 +1,4 @@
-use Rattle.std.proofs.Common.{◌≡◌, ◌+◌, arith, rules}
+use Rattle.std.proofs.Common.{◌+◌, arith, rules}
 use Rattle.mirrors.specs.Repairs.{Ready}
 use Rattle.mirrors.proofs.Steady.{first_cut_sound, second_cut_sound, stored_sound}
 use Rattle.mirrors.proofs.mirrors.stored.MirrorStore.write.Goals as goal
