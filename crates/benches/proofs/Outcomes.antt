@@ -1,17 +1,22 @@
 -- What a bench's calls do to its meaning. Assumes nothing.
-use Rattle.std.proofs.Common.{◌≡◌, ℕ, ◌+◌, ◌-◌, ◌*◌, ◌≤◌, Bool, true, false, cond, eqb, ltb, ◌⊎◌, List, [], ◌∷◌, ◌++◌, length, vec_len, sym, refl, ap, ◌∙◌, subst, inl, inr, ⊎_elim}
-use Rattle.std.proofs.lemmas.Bool.{cases_eq, cond_both, true≢false, false≢true}
-use Rattle.stores.specs.Meanings.{Content, whole, Settled, Written}
-use Rattle.stores.specs.Outcomes.{Restarted}
+use Rattle.std.proofs.Common.{◌≡◌, ℕ, ◌<◌, Bool, true, false, cond, eqb, ltb, leb, ◌⊎◌, List, [], ◌∷◌, ◌++◌, length, Ok, Err, sym, refl, ap, ◌∙◌, subst, inl, inr, ⊎_elim, arith}
+use Rattle.std.proofs.lemmas.Bool.{cases_eq, cond_both, true≢false, false≢true, leb-false, ltb-true, ltb-false, eqb-true, eqb-false}
+use Rattle.faults.specs.declared.faults.Fault.{Fault}
+use Rattle.faults.specs.declared.faults.Layer.TheVariants.{Device}
+use Rattle.stores.specs.Meanings.{Content, whole, Meaning, Settled, Written}
+use Rattle.stores.specs.Outcomes.{Answer, WriteServed, WriteOutcome, FlushOutcome, Restarted}
+use Rattle.stores.specs.Admission.{powered, admission}
 use Rattle.benches.specs.declared.held.Held.{Held}
-use Rattle.benches.specs.declared.supply.Supply.{Supply}
-use Rattle.benches.specs.Supplies.{started, goes, spent}
-use Rattle.benches.specs.Held.{content, settled_all, writes_of, latest, Among, Inside, room_mem, room_held, bench_meaning}
-use Rattle.benches.specs.Writes.{push_hit, push_miss, latest_push, among_push, latest_stands, content_settled_all, inside_none, inside_push}
+use Rattle.benches.specs.declared.power.Power.{Power}
+use Rattle.benches.specs.declared.power.Power.TheVariants.{Off, Fuse, Lasting}
+use Rattle.benches.specs.Supplies.{is_on, is_lasting, started, goes, spent}
+use Rattle.benches.specs.Held.{blocks_in, content, settled_all, writes_of, latest, Among, Inside, room_mem, room_held, bench_meaning}
+use Rattle.benches.specs.Lawful.{latest_stands}
+use Rattle.benches.proofs.Writes.{push_hit, push_miss, latest_push, among_push, content_settled_all, length_settled_all}
 use Rattle.benches.proofs.Fates.{Stands, Fated}
 
 -- settling leaves what is read, and no more may stand
-pub record Calm (mem : List ℕ) (hs : List Held) (after : List ℕ) (rest : List Held) : Type 0 where
+record Calm (mem : List ℕ) (hs : List Held) (after : List ℕ) (rest : List Held) : Type 0 where
   pub reads : (b : ℕ) → latest (content after b) (writes_of rest b) ≡ latest (content mem b) (writes_of hs b)
   pub stands : (b : ℕ) (c : Content) → Stands after rest b c → Stands mem hs b c
 
@@ -36,7 +41,7 @@ calm_by : (t : Bool) (mem : List ℕ) (hs : List Held) → Inside (length mem) h
 calm_by true mem hs i = calm_same mem hs
 calm_by false mem hs i = calm_settled mem hs i
 
-pub calm_room : (mem : List ℕ) (hs : List Held) → Inside (length mem) hs → Calm mem hs (room_mem mem hs) (room_held hs)
+calm_room : (mem : List ℕ) (hs : List Held) → Inside (length mem) hs → Calm mem hs (room_mem mem hs) (room_held hs)
 calm_room mem hs i = calm_by (ltb (length hs) 16) mem hs i
 
 -- what may stand after a write was held
@@ -53,7 +58,7 @@ held_stands mem after hs rest h calm b c s =
     s
 
 -- the memory and the held writes after a write of h
-pub record Holding (mem : List ℕ) (hs : List Held) (after : List ℕ) (all : List Held) (h : Held) : Type 0 where
+record Holding (mem : List ℕ) (hs : List Held) (after : List ℕ) (all : List Held) (h : Held) : Type 0 where
   pub here : latest (content after h.block) (writes_of all h.block) ≡ whole h.bytes
   pub others : (b : ℕ) → (b ≡ h.block → ⊥) → latest (content after b) (writes_of all b) ≡ latest (content mem b) (writes_of hs b)
   pub stands : (b : ℕ) (c : Content) → Stands after all b c → Stands mem hs b c ⊎ Written h.block h.bytes b c
@@ -70,83 +75,154 @@ holding_calm mem after hs rest h calm =
       stands = held_stands mem after hs rest h calm;
     }
 
-pub holding : (mem after : List ℕ) (hs all : List Held) (h : Held) → Inside (length mem) hs → after ≡ room_mem mem hs → all ≡ room_held hs ++ h ∷ [] → Holding mem hs after all h
-holding mem after hs all h i m a =
-    let P : List ℕ → Type 0 = λ x. Holding mem hs x all h in
-    let Q : List Held → Type 0 = λ x. Holding mem hs (room_mem mem hs) x h in
-    subst P (sym m) (subst Q (sym a) (holding_calm mem (room_mem mem hs) hs (room_held hs) h (calm_room mem hs i)))
+holding : (mem : List ℕ) (hs : List Held) (h : Held) → Inside (length mem) hs → Holding mem hs (room_mem mem hs) (room_held hs ++ h ∷ []) h
+holding mem hs h i = holding_calm mem (room_mem mem hs) hs (room_held hs) h (calm_room mem hs i)
 
--- what flush leaves
-pub record Emptied (mem : List ℕ) (hs : List Held) (after : List ℕ) (none : List Held) : Type 0 where
-  pub calm : Calm mem hs after none
-  pub reads : (b : ℕ) → latest (content after b) (writes_of none b) ≡ content after b
-  pub only : (b : ℕ) (c : Content) → Stands after none b c → c ≡ content after b
+-- a meaning with equal parts
+bench_same : (P : Meaning → Type 0) (p q : Power) (mem after : List ℕ) (hs rest : List Held) → q ≡ p → after ≡ mem → rest ≡ hs → P (bench_meaning p mem hs) → P (bench_meaning q after rest)
+bench_same P p q mem after hs rest e f g x =
+    let A : Power → Type 0 = λ i. P (bench_meaning i mem hs) in
+    let B : List ℕ → Type 0 = λ i. P (bench_meaning q i hs) in
+    let C : List Held → Type 0 = λ i. P (bench_meaning q after i) in
+    subst C (sym g) (subst B (sym f) (subst A (sym e) x))
 
-emptied_base : (mem : List ℕ) (hs : List Held) → Inside (length mem) hs → Emptied mem hs (settled_all mem hs) []
-emptied_base mem hs i = record { calm = calm_settled mem hs i; reads = λ b. refl; only = λ b c s. ⊎_elim (λ e. e) (λ a. absurd a) s }
+-- the power: a call that goes through leaves it on
+spent_go : (p : Power) → goes p ≡ true → is_on (spent p) ≡ true
+spent_go Off g = g
+spent_go (Fuse n) g =
+    let P : Power → Type 0 = λ q. is_on q ≡ true in
+    cond_both (eqb n 0) Off _ P (λ z. absurd (omega (arith, ltb-true 0 n g, eqb-true n 0 z))) (λ z. refl)
+spent_go Lasting g = refl
 
-pub emptied : (mem after : List ℕ) (hs none : List Held) → Inside (length mem) hs → after ≡ settled_all mem hs → none ≡ [] → Emptied mem hs after none
-emptied mem after hs none i m e =
-    let P : List ℕ → Type 0 = λ x. Emptied mem hs x none in
-    let Q : List Held → Type 0 = λ x. Emptied mem hs (settled_all mem hs) x in
-    subst P (sym m) (subst Q (sym e) (emptied_base mem hs i))
+-- a call that does not leaves it off, and it did not last
+spent_cut : (p : Power) → goes p ≡ false → (is_on (spent p) ≡ false) × (is_lasting p ≡ false)
+spent_cut Off g = (refl, refl)
+spent_cut (Fuse n) g =
+    let P : Power → Type 0 = λ q. is_on q ≡ false in
+    (cond_both (eqb n 0) Off _ P (λ z. refl) (λ z. absurd (omega (arith, ltb-false 0 n g, cases_eq n 0, eqb-false n 0 z))), refl)
+spent_cut Lasting g = absurd (true≢false g)
+
+spent_lasting : (p : Power) → is_lasting p ≡ true → is_lasting (spent p) ≡ true
+spent_lasting Off l = l
+spent_lasting (Fuse n) l = absurd (false≢true l)
+spent_lasting Lasting l = refl
+
+-- a store that admits a call has the block, the right length, and is on
+pub record Admitted (size b n : ℕ) (on : Bool) : Type 0 where
+  pub range : b < size
+  pub long : n ≡ 504
+  pub power : on ≡ true
+
+admitted_by : (x y on : Bool) (e f g : Fault) → ◌≡◌ {A = Answer} (Ok tt) (cond x (Err e) (cond y (cond on (Ok tt) (Err f)) (Err g))) → (x ≡ false) × (y ≡ true) × (on ≡ true)
+admitted_by true y on e f g r = cc
+admitted_by false false on e f g r = cc
+admitted_by false true false e f g r = cc
+admitted_by false true true e f g r = (refl, refl, refl)
+
+pub admitted : (size b n : ℕ) (on : Bool) → ◌≡◌ {A = Answer} (Ok tt) (admission Device size on b n) → Admitted size b n on
+admitted size b n on r =
+    let a = admitted_by (leb size b) (eqb n 504) on _ _ _ r in
+    record { range = leb-false size b a.0; long = eqb-true n 504 a.1; power = a.2 }
+
+size_room : (mem : List ℕ) (hs : List Held) → Inside (length mem) hs → length (room_mem mem hs) ≡ length mem
+size_room mem hs i =
+    let P : List ℕ → Type 0 = λ x. length x ≡ length mem in
+    cond_both (ltb (length hs) 16) mem (settled_all mem hs) P (λ z. refl) (λ z. length_settled_all mem hs i)
+
+write_served : (t : Bool) (p : Power) (mem : List ℕ) (hs : List Held) (h : Held) → goes p ≡ t → Inside (length mem) hs → WriteServed Device (bench_meaning p mem hs) (bench_meaning (spent p) (room_mem mem hs) (room_held hs ++ h ∷ [])) h.block h.bytes (powered Device t)
+write_served true p mem hs h g i =
+    let e = holding mem hs h i in
+    record {
+      size = ap blocks_in (size_room mem hs i);
+      on = spent_go p g;
+      here = e.here;
+      others = λ b hb ne. e.others b ne;
+      stands = λ b c hb s. e.stands b c s;
+      lasts = spent_lasting p;
+    }
+write_served false p mem hs h g i =
+    let e = holding mem hs h i in
+    record {
+      is = refl;
+      supply = (spent_cut p g).1;
+      left = record {
+        size = ap blocks_in (size_room mem hs i);
+        off = (spent_cut p g).0;
+        stands = λ b c hb s. e.stands b c s;
+        lasts = spent_lasting p;
+      };
+    }
+
+write_base : (p : Power) (mem : List ℕ) (hs : List Held) (h : Held) → Admitted (blocks_in (length mem)) h.block (length h.bytes) (is_on p) → Inside (length mem) hs → WriteOutcome 504 Device Device (bench_meaning p mem hs) (bench_meaning (spent p) (room_mem mem hs) (room_held hs ++ h ∷ [])) h.block h.bytes (powered Device (goes p))
+write_base p mem hs h a i =
+    record {
+      range = λ r. absurd (omega (arith, a.range));
+      buffer = λ r l. absurd (l a.long);
+      off = λ r l o. absurd (true≢false (sym a.power ∙ o));
+      served = λ r l o. write_served (goes p) p mem hs h refl i;
+    }
+
+pub write_outcome : (p q : Power) (mem after : List ℕ) (hs all : List Held) (h : Held) (r : Answer) → Admitted (blocks_in (length mem)) h.block (length h.bytes) (is_on p) → Inside (length mem) hs → q ≡ spent p → after ≡ room_mem mem hs → all ≡ room_held hs ++ h ∷ [] → r ≡ powered Device (goes p) → WriteOutcome 504 Device Device (bench_meaning p mem hs) (bench_meaning q after all) h.block h.bytes r
+write_outcome p q mem after hs all h r a i e f g k =
+    let P : Meaning → Type 0 = λ n. WriteOutcome 504 Device Device (bench_meaning p mem hs) n h.block h.bytes (powered Device (goes p)) in
+    let Q : Answer → Type 0 = λ x. WriteOutcome 504 Device Device (bench_meaning p mem hs) (bench_meaning q after all) h.block h.bytes x in
+    subst Q (sym k) (bench_same P (spent p) q (room_mem mem hs) after (room_held hs ++ h ∷ []) all e f g (write_base p mem hs h a i))
 
 -- a bench that holds nothing is settled
-settled_base : (n : ℕ) (on lasts : Bool) (mem : List ℕ) → Settled (bench_meaning n on mem [] lasts)
-settled_base n on lasts mem = record { holds = λ b h. inl refl; only = λ b c h s. ⊎_elim (λ e. e) (λ a. absurd a) s }
+settled_none : (p : Power) (mem : List ℕ) → Settled (bench_meaning p mem [])
+settled_none p mem = record { holds = λ b h. inl refl; only = λ b c h s. ⊎_elim (λ e. e) (λ a. absurd a) s }
 
-pub settled_none : (n : ℕ) (on lasts : Bool) (mem : List ℕ) (none : List Held) → none ≡ [] → Settled (bench_meaning n on mem none lasts)
-settled_none n on lasts mem none e =
-    let P : List Held → Type 0 = λ x. Settled (bench_meaning n on mem x lasts) in
-    subst P (sym e) (settled_base n on lasts mem)
+went_on : (p : Power) → goes p ≡ true → is_on p ≡ true
+went_on Off g = g
+went_on (Fuse n) g = refl
+went_on Lasting g = refl
 
-restarted_base : (n : ℕ) (on on' lasts lasts' : Bool) (mem after : List ℕ) (hs : List Held) → Fated mem after hs n → on' ≡ true → (lasts ≡ true → lasts' ≡ true) → Restarted (bench_meaning n on mem hs lasts) (bench_meaning n on' after [] lasts')
-restarted_base n on on' lasts lasts' mem after hs f o l =
-    record { size = refl; on = o; reads = λ b h. f.standing b; settled = settled_base n on' lasts' after; lasts = l }
+flush_base : (p : Power) (mem : List ℕ) (hs : List Held) → goes p ≡ true → Inside (length mem) hs → FlushOutcome Device Device (bench_meaning p mem hs) (bench_meaning (spent p) (settled_all mem hs) []) (Ok tt)
+flush_base p mem hs g i =
+    let e = calm_settled mem hs i in
+    record {
+      off = λ o. absurd (true≢false (sym (went_on p g) ∙ o));
+      served = λ o. record {
+        size = ap blocks_in (length_settled_all mem hs i);
+        on = spent_go p g;
+        reads = λ b h. e.reads b;
+        settled = settled_none (spent p) (settled_all mem hs);
+        lasts = spent_lasting p;
+      };
+    }
 
-pub restarted : (n : ℕ) (on on' lasts lasts' : Bool) (mem after : List ℕ) (hs none : List Held) → Fated mem after hs n → none ≡ [] → on' ≡ true → (lasts ≡ true → lasts' ≡ true) → Restarted (bench_meaning n on mem hs lasts) (bench_meaning n on' after none lasts')
-restarted n on on' lasts lasts' mem after hs none f e o l =
-    let P : List Held → Type 0 = λ x. Restarted (bench_meaning n on mem hs lasts) (bench_meaning n on' after x lasts') in
-    subst P (sym e) (restarted_base n on on' lasts lasts' mem after hs f o l)
+pub flush_outcome : (p q : Power) (mem after : List ℕ) (hs none : List Held) → goes p ≡ true → Inside (length mem) hs → q ≡ spent p → after ≡ settled_all mem hs → none ≡ [] → FlushOutcome Device Device (bench_meaning p mem hs) (bench_meaning q after none) (Ok tt)
+flush_outcome p q mem after hs none g i e f k =
+    let P : Meaning → Type 0 = λ n. FlushOutcome Device Device (bench_meaning p mem hs) n (Ok tt) in
+    bench_same P (spent p) q (settled_all mem hs) after [] none e f k (flush_base p mem hs g i)
 
--- the supply
-pub started_on : (s : Supply) → (started s).on ≡ true
-started_on s =
-    let P : Supply → Type 0 = λ q. q.on ≡ true in
-    cond_both (ltb s.next (vec_len s.fuses)) _ _ P (λ z. refl) (λ z. refl)
+started_on : (fuses : List ℕ) → is_on (started fuses) ≡ true
+started_on [] = refl
+started_on (n ∷ ns) = refl
 
-pub started_lasts : (s : Supply) → s.lasts ≡ true → (started s).lasts ≡ true
-started_lasts s l =
-    let P : Supply → Type 0 = λ q. q.lasts ≡ true in
-    cond_both (ltb s.next (vec_len s.fuses)) _ _ P (λ z. l) (λ z. refl)
+started_lasting : (fuses : List ℕ) → fuses ≡ [] → is_lasting (started fuses) ≡ true
+started_lasting fuses e = ap (λ (xs : List ℕ). is_lasting (started xs)) e
 
-go_by : (l z : Bool) (s x y : Supply) → y.on ≡ s.on → true ≡ cond l true (cond z false true) → (cond l s (cond z x y)).on ≡ s.on
-go_by true z s x y e g = refl
-go_by false true s x y e g = absurd (true≢false g)
-go_by false false s x y e g = e
+pub goes_on : (t : Bool) → ◌≡◌ {A = Answer} (Ok tt) (powered Device t) → t ≡ true
+goes_on true r = refl
+goes_on false r = cc
 
-cut_by : (l z : Bool) (s x y : Supply) → x.on ≡ false → false ≡ cond l true (cond z false true) → ((cond l s (cond z x y)).on ≡ false) × (l ≡ false)
-cut_by true z s x y e g = absurd (false≢true g)
-cut_by false true s x y e g = (e, refl)
-cut_by false false s x y e g = absurd (false≢true g)
+lasting_is : (p : Power) → is_lasting p ≡ true → p ≡ Lasting
+lasting_is Off l = absurd (false≢true l)
+lasting_is (Fuse n) l = absurd (false≢true l)
+lasting_is Lasting l = refl
 
-lasts_by : (l z : Bool) (s x y : Supply) → x.lasts ≡ s.lasts → y.lasts ≡ s.lasts → (cond l s (cond z x y)).lasts ≡ s.lasts
-lasts_by true z s x y e f = refl
-lasts_by false true s x y e f = e
-lasts_by false false s x y e f = f
+restart_base : (p : Power) (fuses : List ℕ) (mem after : List ℕ) (hs : List Held) → (p ≡ Lasting → fuses ≡ []) → Fated mem after hs (blocks_in (length mem)) → Restarted (bench_meaning p mem hs) (bench_meaning (started fuses) after [])
+restart_base p fuses mem after hs past f =
+    record {
+      size = ap blocks_in f.long;
+      on = started_on fuses;
+      reads = λ b h. f.standing b;
+      settled = settled_none (started fuses) after;
+      lasts = λ l. started_lasting fuses (past (lasting_is p l));
+    }
 
--- a call that goes through leaves the bench on
-pub spent_go : (s : Supply) → true ≡ goes s → (spent s).on ≡ s.on
-spent_go s g = go_by s.lasts (eqb s.left 0) s _ _ refl g
-
--- a cut call leaves it off, and its supply did not last
-pub spent_cut : (s : Supply) → false ≡ goes s → ((spent s).on ≡ false) × (s.lasts ≡ false)
-spent_cut s g = cut_by s.lasts (eqb s.left 0) s _ (record { fuses = s.fuses; next = s.next; left = s.left - 1; on = s.on; lasts = s.lasts }) refl g
-
-pub spent_lasts : (s : Supply) → (spent s).lasts ≡ s.lasts
-spent_lasts s = lasts_by s.lasts (eqb s.left 0) s _ _ refl refl
-
-pub inside_held : (len : ℕ) (hs all : List Held) (h : Held) → Inside len hs → all ≡ room_held hs ++ h ∷ [] → 505 * h.block + 505 ≤ len → length h.bytes ≡ 504 → Inside len all
-inside_held len hs all h i e f l =
-    let P : List Held → Type 0 = λ x. Inside len x in
-    subst P (sym e) (inside_push len (room_held hs) h (cond_both (ltb (length hs) 16) hs [] P (λ z. i) (λ z. inside_none len)) f l)
+pub restart_outcome : (p q : Power) (fuses : List ℕ) (mem after : List ℕ) (hs none : List Held) → (p ≡ Lasting → fuses ≡ []) → Fated mem after hs (blocks_in (length mem)) → q ≡ started fuses → none ≡ [] → Restarted (bench_meaning p mem hs) (bench_meaning q after none)
+restart_outcome p q fuses mem after hs none past f e k =
+    let P : Meaning → Type 0 = λ n. Restarted (bench_meaning p mem hs) n in
+    bench_same P (started fuses) q after after [] none e refl k (restart_base p fuses mem after hs past f)

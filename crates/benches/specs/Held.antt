@@ -1,12 +1,23 @@
 -- What a bench's memory and its held writes say of each block. Assumes nothing.
-use Rattle.std.specs.Prelude.{◌≡◌, ℕ, ◌+◌, ◌*◌, ◌<◌, ◌≤◌, Bool, true, false, cond, ◌⊎◌, List, [], ◌∷◌, length, take, drop, ◌==◌, nat_lt, slice_index, slice_index_or, slice_set}
+use Rattle.std.specs.Prelude.{◌≡◌, ℕ, ◌+◌, ◌*◌, ◌/◌, ◌<◌, ◌≤◌, min, cond, ◌⊎◌, List, [], ◌∷◌, length, take, drop, map, filter, Option, None, Some, ◌==◌, nat_lt, slice_index, slice_index_or, slice_set}
 use borrow.Rule.Slice.PartMut.{put_mid}
 use Rattle.stores.specs.Meanings.{Content, whole, torn, Meaning}
 use Rattle.benches.specs.declared.held.Held.{Held}
+use Rattle.benches.specs.declared.power.Power.{Power}
+use Rattle.benches.specs.Supplies.{is_on, is_lasting}
+
+-- as many whole blocks as fit in this many bytes, up to the limit
+abbrev pub blocks_in : ℕ → ℕ
+blocks_in n = min (n / 505) 65536
 
 -- what is settled at block b: 504 bytes, and then a byte that is zero unless the block is torn
 abbrev pub content : List ℕ → ℕ → Content
 content mem b = cond (slice_index mem (505 * b + 504) == 0) (whole (take 504 (drop (505 * b) mem))) torn
+
+-- what a reader gets of it: the bytes, or none where it is torn
+abbrev pub shown : Content → Option (List ℕ)
+shown (whole bs) = Some bs
+shown torn = None
 
 -- the memory with these bytes settled at block b
 abbrev pub settled : List ℕ → ℕ → List ℕ → List ℕ
@@ -18,8 +29,7 @@ tore mem b = slice_set mem (505 * b + 504) 1
 
 -- the held writes of block b, in order
 abbrev pub writes_of : List Held → ℕ → List (List ℕ)
-writes_of [] b = []
-writes_of (h ∷ hs) b = cond (h.block == b) (h.bytes ∷ writes_of hs b) (writes_of hs b)
+writes_of hs b = map (λ (h : Held). h.bytes) (filter (λ (h : Held). h.block == b) hs)
 
 -- the last of these writes, or else c
 abbrev pub latest : Content → List (List ℕ) → Content
@@ -51,17 +61,13 @@ blank = record { block = 0; bytes = [] }
 abbrev pub Inside : ℕ → List Held → Type 0
 Inside len held = (i : ℕ) → i < length held → (505 * (slice_index_or held i blank).block + 505 ≤ len) × (length (slice_index_or held i blank).bytes ≡ 504)
 
-abbrev pub bench_meaning : ℕ → Bool → List ℕ → List Held → Bool → Meaning
-bench_meaning size on mem held lasts =
+-- a block reads its last held write, or else what is settled; after a cut that, any held write of it or torn may stand
+abbrev pub bench_meaning : Power → List ℕ → List Held → Meaning
+bench_meaning power mem held =
     record {
-      size = size;
-      on = on;
+      size = blocks_in (length mem);
+      on = is_on power;
       reads = λ b. latest (content mem b) (writes_of held b);
       stands = λ b c. (c ≡ content mem b) ⊎ Among (writes_of held b) c;
-      lasts = lasts;
+      lasts = is_lasting power;
     }
-
--- a content that was fetched into a buffer, if it is whole
-abbrev pub Fetched : Content → List ℕ → List ℕ → Bool → Type 0
-Fetched c before after true = c ≡ whole after
-Fetched c before after false = (c ≡ torn) × (after ≡ before)

@@ -2,5 +2,4 @@ pub mod Held
 pub mod Supplies
 pub mod Passes
 pub mod Benches
-pub mod Contents
-pub mod Writes
+pub mod Lawful

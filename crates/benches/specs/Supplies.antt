@@ -1,22 +1,33 @@
 -- How a supply burns its fuses. Assumes nothing.
-use Rattle.std.specs.Prelude.{◌+◌, ◌-◌, Bool, true, false, cond, vec_items, vec_len, ◌==◌, nat_lt, slice_index}
-use Rattle.benches.specs.declared.supply.Supply.{Supply}
+use Rattle.std.specs.Prelude.{ℕ, ◌-◌, Bool, true, false, cond, List, [], ◌∷◌, ◌==◌, nat_lt}
+use Rattle.benches.specs.declared.power.Power.{Power}
+use Rattle.benches.specs.declared.power.Power.TheVariants.{Off, Fuse, Lasting}
 
--- the next fuse, or a lasting supply past the last
-abbrev pub started : Supply → Supply
-started s =
-    cond (nat_lt s.next (vec_len s.fuses))
-    (record { fuses = s.fuses; next = s.next + 1; left = slice_index (vec_items s.fuses) s.next; on = true; lasts = s.lasts })
-    (record { fuses = s.fuses; next = s.next; left = s.left; on = true; lasts = true })
+-- whether the power is on
+abbrev pub is_on : Power → Bool
+is_on Off = false
+is_on (Fuse n) = true
+is_on Lasting = true
+
+-- whether it lasts
+abbrev pub is_lasting : Power → Bool
+is_lasting Off = false
+is_lasting (Fuse n) = false
+is_lasting Lasting = true
+
+-- a restart lights the next of the fuses that are left, and past the last the power lasts
+abbrev pub started : List ℕ → Power
+started [] = Lasting
+started (n ∷ ns) = Fuse n
 
 -- whether one more write or flush goes through
-abbrev pub goes : Supply → Bool
-goes s = cond s.lasts true (cond (s.left == 0) false true)
+abbrev pub goes : Power → Bool
+goes Off = false
+goes (Fuse n) = nat_lt 0 n
+goes Lasting = true
 
 -- a write or a flush goes through, or is cut
-abbrev pub spent : Supply → Supply
-spent s =
-    cond s.lasts s
-    (cond (s.left == 0)
-    (record { fuses = s.fuses; next = s.next; left = s.left; on = false; lasts = s.lasts })
-    (record { fuses = s.fuses; next = s.next; left = s.left - 1; on = s.on; lasts = s.lasts }))
+abbrev pub spent : Power → Power
+spent Off = Off
+spent (Fuse n) = cond (n == 0) Off (Fuse (n - 1))
+spent Lasting = Lasting

@@ -1,8 +1,6 @@
-ghost use Rattle.std.specs.Prelude.{◌≡◌, ◌*◌, ◌≤◌, vec_len, vec_capacity};
-ghost use Rattle.benches.specs.Held.{Inside};
-
-use crate::held::Held;
+use crate::disk::Disk;
 use crate::supply::Supply;
+use std::collections::VecDeque;
 
 pub mod stored;
 
@@ -19,15 +17,7 @@ pub struct Given {
 // and it keeps, loses or tears held writes as the choices say.
 #[derive(Drop)]
 pub struct Bench {
-    bytes: Vec<u8>,
-    blocks: u32,
-    held: Vec<Held>,
+    disk: Disk,
     supply: Supply,
-    choices: Vec<u8>,
-    at: usize,
-    ghost fits: { 505 * blocks ≤ vec_len bytes },
-    ghost limited: { blocks ≤ 65536 },
-    ghost few: { vec_len held ≤ 16 },
-    ghost room: { 16 ≤ vec_capacity held },
-    ghost inside: { Inside (vec_len bytes) held.items },
+    choices: VecDeque<u8>,
 }

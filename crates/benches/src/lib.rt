@@ -2,10 +2,9 @@
 #![tactic(auto)]
 
 mod benches;
+mod disk;
 mod held;
-mod holds;
-mod memory;
-mod passes;
+mod power;
 mod supply;
 
 pub use benches::{Bench, Given};

@@ -22,10 +22,8 @@ fn refused<K>(read: Result<K, Fault>) -> Option<(u8, u64)>
 where
     K: RecordKind,
 {
-    match read {
-        Ok(_) => None,
-        Err(fault) => Some((fault.reason.number(), fault.place)),
-    }
+    read.err()
+        .map(|fault| (u8::from(fault.reason), fault.place))
 }
 
 #[test]

@@ -86,16 +86,13 @@ const MEANS: [(i64, u64, &str); 9] = [
 
 fn printed(rt: &impl Abort, heap: Global, script: &str, said: &str) -> Result<(), Fail> {
     match transcript(heap, script) {
-        Ok(out) => {
-            assert_eq!(rt; out.as_str(), said);
-            Ok(())
-        },
+        Ok(out) => assert_eq!(rt; out.as_str(), said),
         Err(unread) => {
             let text = format!(in heap; "{unread}")?;
             assert_eq!(rt; text.as_str(), said);
-            Ok(())
         }
     }
+    Ok(())
 }
 
 #[test]

@@ -1,5 +1,6 @@
 ghost use Rattle.std.specs.Prelude.{◌≡◌};
 ghost use Rattle.faults.specs.Numbers.{reason_number, layer_number};
+ghost use Rattle.faults.specs.Refusals.{fault};
 
 // Why a call was refused. Numbers below 21 speak of what the caller gave, and the others of the state that the
 // call met. Each comment says what the refusal's place is.
@@ -37,12 +38,12 @@ pub enum Reason {
     EmptySlot = 31,
 }
 
-impl Reason {
-    // The number that the format gives this reason.
-    pub fn number(self) -> u8
-        ensures { result ≡ reason_number self }
-    {
-        self as u8
+// The number that the format gives this reason.
+impl From<Reason> for u8 {
+    ghost from_gives = { λ r n. n ≡ reason_number r };
+
+    fn from(reason: Reason) -> u8 {
+        reason as u8
     }
 }
 
@@ -56,12 +57,12 @@ pub enum Layer {
     Record = 4,
 }
 
-impl Layer {
-    // The number that the format gives this layer.
-    pub fn number(self) -> u8
-        ensures { result ≡ layer_number self }
-    {
-        self as u8
+// The number that the format gives this layer.
+impl From<Layer> for u8 {
+    ghost from_gives = { λ l n. n ≡ layer_number l };
+
+    fn from(layer: Layer) -> u8 {
+        layer as u8
     }
 }
 
@@ -71,4 +72,17 @@ pub struct Fault {
     pub reason: Reason,
     pub layer: Layer,
     pub place: u64,
+}
+
+impl Layer {
+    // The refusal that arises in this layer, for this reason, at this place.
+    pub const fn fault(self, reason: Reason, place: u64) -> Fault
+        ensures { result ≡ fault reason self place }
+    {
+        Fault {
+            reason,
+            layer: self,
+            place,
+        }
+    }
 }

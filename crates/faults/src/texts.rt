@@ -48,7 +48,7 @@ impl fmt::Display for Reason {
     ghost output = { λ r. Some (reason_shown r) };
 
     fn fmt<W: fmt::Write>(&self, f: &mut fmt::Formatter<W>) -> fmt::Result {
-        let number = self.number();
+        let number = u8::from(*self);
         let reason = self.text();
         write!(f, "{number} ({reason})")
     }
@@ -59,7 +59,7 @@ impl fmt::Display for Layer {
     ghost output = { λ l. Some (layer_shown l) };
 
     fn fmt<W: fmt::Write>(&self, f: &mut fmt::Formatter<W>) -> fmt::Result {
-        let number = self.number();
+        let number = u8::from(*self);
         let layer = self.text();
         write!(f, "{number} ({layer})")
     }

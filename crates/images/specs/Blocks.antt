@@ -5,9 +5,9 @@ use borrow.Rule.Slice.PartMut.{put_mid, Post-is}
 use Rattle.std.proofs.lemmas.List.{length-take, length-drop, length-append, drop-take}
 use Rattle.std.proofs.lemmas.Slice.{between-put_mid, drop-put_mid, take-put_mid_below}
 use Rattle.std.proofs.lemmas.Bool.{cases_eq, cases_lt}
-use Rattle.stores.specs.Meanings.{whole}
+use Rattle.stores.specs.Meanings.{whole, Lawful}
 use Rattle.stores.specs.Outcomes.{Wrote}
-use Rattle.images.specs.Images.{block, splice, image_meaning}
+use Rattle.images.specs.Images.{block, blocks_in, splice, image_meaning}
 
 pub length_block : (xs : List ℕ) (b n : ℕ) → b < n → 504 * n ≤ length xs → length (block xs b) ≡ 504
 length_block xs b n h f = simp (length-take, length-drop) (omega arith)
@@ -30,13 +30,13 @@ block_other xs ys a b n k ha hb f kk l ne =
     (λ above. ap (λ (s : List ℕ). take 504 s) (drop-put_mid (504 * a) k xs ys (504 * b) (omega arith) (omega arith) (omega arith)))
     (cases_lt b a)
 
-pub image_wrote : (n : ℕ) (on : Bool) (xs zs ys : List ℕ) (a k : ℕ) → on ≡ true → a < n → 504 * n ≤ length xs → length ys ≡ 504 → k ≡ 504 → zs ≡ put_mid (504 * a) k xs ys → Wrote (image_meaning n on xs) (image_meaning n on zs) a ys
-image_wrote n on xs zs ys a k o h f l kk e =
+pub image_wrote : (on : Bool) (xs zs ys : List ℕ) (a k : ℕ) → on ≡ true → a < blocks_in (length xs) → length zs ≡ length xs → length ys ≡ 504 → k ≡ 504 → zs ≡ put_mid (504 * a) k xs ys → Wrote (image_meaning on xs) (image_meaning on zs) a ys
+image_wrote on xs zs ys a k o h z l kk e =
     let same : block zs a ≡ ys = ap (λ (s : List ℕ). block s a) e ∙ block_same xs ys a k (omega arith) l in
-    let other : (b : ℕ) → b < n → (b ≢ a) → block zs b ≡ block xs b =
-    λ b hb ne. ap (λ (s : List ℕ). block s b) e ∙ block_other xs ys a b n k h hb f kk l ne in
+    let other : (b : ℕ) → b < blocks_in (length xs) → (b ≢ a) → block zs b ≡ block xs b =
+    λ b hb ne. ap (λ (s : List ℕ). block s b) e ∙ block_other xs ys a b (blocks_in (length xs)) k h hb (omega arith) kk l ne in
     record {
-      size = refl;
+      size = ap blocks_in z;
       on = o;
       here = ap whole same;
       others = λ b hb ne. ap whole (other b hb ne);
@@ -46,6 +46,17 @@ image_wrote n on xs zs ys a k o h f l kk e =
           (λ ne. inl (s ∙ ap whole (other b hb ne)))
           (cases_eq b a);
       lasts = λ t. t;
+    }
+
+pub image_lawful : (on : Bool) (xs : List ℕ) → Lawful 504 65536 (image_meaning on xs)
+image_lawful on xs =
+    let long : (b : ℕ) (bs : List ℕ) → b < blocks_in (length xs) → whole bs ≡ whole (block xs b) → length bs ≡ 504 =
+    λ b bs h e. let same : bs ≡ block xs b = cc in ap length same ∙ length_block xs b (blocks_in (length xs)) h (omega arith) in
+    record {
+      limited = omega arith;
+      some = λ b h. (_, refl);
+      stand_long = long;
+      read_long = λ b bs h e. long b bs h (sym e);
     }
 
 -- the memory after a copy into a block's place

@@ -1,5 +1,5 @@
 -- What an image means. Assumes nothing.
-use Rattle.std.specs.Prelude.{◌≡◌, ℕ, ◌+◌, ◌*◌, ◌/◌, min, Bool, true, false, List, ◌++◌, take, drop, Ok, Err, vec_len}
+use Rattle.std.specs.Prelude.{◌≡◌, ℕ, ◌+◌, ◌*◌, ◌/◌, min, Bool, true, false, List, ◌++◌, length, take, drop, Ok, Err, vec_items}
 use Rattle.std.specs.Global.{Vec}
 use Rattle.stores.specs.Meanings.{whole, Meaning}
 use Rattle.stores.specs.Outcomes.{Answer}
@@ -18,18 +18,24 @@ abbrev pub memory_after : Answer → List ℕ → ℕ → List ℕ → List ℕ
 memory_after (Ok done) memory b bytes = splice memory b bytes
 memory_after (Err e) memory b bytes = memory
 
+-- as many whole blocks as fit in this many bytes, up to the limit
+abbrev pub blocks_in : ℕ → ℕ
+blocks_in n = min (n / 504) 65536
+
 -- an image settles each write, is never torn, and its supply lasts
-abbrev pub image_meaning : ℕ → Bool → List ℕ → Meaning
-image_meaning blocks on bytes = record {
-  size = blocks;
+abbrev pub image_meaning : Bool → List ℕ → Meaning
+image_meaning on bytes = record {
+  size = blocks_in (length bytes);
   on = on;
   reads = λ b. whole (block bytes b);
   stands = λ b c. c ≡ whole (block bytes b);
   lasts = true;
 }
 
--- an image of this memory has as many whole blocks as fit there, up to the limit, and is off
+abbrev pub meaning_of : Image → Meaning
+meaning_of s = image_meaning s.on (vec_items s.bytes)
+
+-- an image of this memory is off
 pub record Made (bytes : Vec ℕ) (r : Image) : Type 0 where
   pub memory : r.bytes ≡ bytes
-  pub fit : r.blocks ≡ min (vec_len bytes / 504) 65536
   pub off : r.on ≡ false

@@ -1,5 +1,3 @@
-ghost use Rattle.std.specs.Prelude.{◌*◌, ◌≤◌, vec_len};
-
 pub mod stored;
 
 // A store in memory that the caller gives and gets back. It has as many whole blocks as fit there; bytes after the last
@@ -7,8 +5,5 @@ pub mod stored;
 #[derive(Drop)]
 pub struct Image {
     bytes: Vec<u8>,
-    blocks: u32,
     on: bool,
-    ghost fits: { 504 * blocks ≤ vec_len bytes },
-    ghost limited: { blocks ≤ 65536 },
 }

@@ -25,19 +25,13 @@ fn thousandths(sum: u64, count: u64) -> u128
 impl fmt::Display for Mean {
     ghost output = { λ m. Some (mean_text m.sum m.count) };
 
+    #[tactic(auto, using(crate::proofs::Decimals::three_digits))]
     fn fmt<W: fmt::Write>(&self, f: &mut fmt::Formatter<W>) -> fmt::Result {
         if self.count == 0 {
-            return write!(f, "none");
+            return f.write_str("none");
         }
         let all = thousandths(self.sum.unsigned_abs(), self.count);
-        let whole = all / 1000;
-        let a = all / 100 % 10;
-        let b = all / 10 % 10;
-        let c = all % 10;
-        if self.sum < 0 && all > 0 {
-            write!(f, "-{whole}.{a}{b}{c}")
-        } else {
-            write!(f, "{whole}.{a}{b}{c}")
-        }
+        let sign = if self.sum < 0 && all > 0 { "-" } else { "" };
+        write!(f, "{sign}{}.{:03}", all / 1000, all % 1000)
     }
 }

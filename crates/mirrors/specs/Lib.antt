@@ -1,3 +1,4 @@
+pub mod Views
 pub mod Mirrors
 pub mod Repairs
-pub mod Mends
+pub mod Laws

@@ -7,30 +7,29 @@ abbrev pub either : Content → Content → Content
 either (whole bs) d = whole bs
 either torn d = d
 
+-- half of the blocks below, rounded down
+abbrev pub half : Meaning → ℕ
+half m = m.size / 2
+
 -- c is what a block reads of some first and some second copy that may stand below
-pub record Copies (m : Meaning) (half b : ℕ) (c : Content) : Type 0 where
+pub record Copies (m : Meaning) (b : ℕ) (c : Content) : Type 0 where
   pub first : Content
   pub second : Content
   pub at_first : m.stands b first
-  pub at_second : m.stands (half + b) second
+  pub at_second : m.stands (half m + b) second
   pub is : c ≡ either first second
 
-abbrev pub mirror_meaning : ℕ → Bool → Meaning → Meaning
-mirror_meaning half on m = record {
-  size = half;
+abbrev pub mirror_meaning : Bool → Meaning → Meaning
+mirror_meaning on m = record {
+  size = half m;
   on = on;
-  reads = λ b. either (m.reads b) (m.reads (half + b));
-  stands = λ b c. Copies m half b c;
+  reads = λ b. either (m.reads b) (m.reads (half m + b));
+  stands = λ b c. Copies m b c;
   lasts = m.lasts;
 }
 
 -- while a mirror is on, the store below is on and settled, and both copies of each block read the same
-pub record Paired (half : ℕ) (m : Meaning) : Type 0 where
+pub record Paired (m : Meaning) : Type 0 where
   pub on : m.on ≡ true
   pub settled : Settled m
-  pub agree : (b : ℕ) → b < half → m.reads b ≡ m.reads (half + b)
-
--- the states of a mirror that arise: half of the blocks below, rounded down, and paired while it is on
-pub record MirrorArises (half : ℕ) (on : Bool) (m : Meaning) : Type 0 where
-  pub half_is : half ≡ m.size / 2
-  pub paired : on ≡ true → Paired half m
+  pub agree : (b : ℕ) → b < half m → m.reads b ≡ m.reads (half m + b)

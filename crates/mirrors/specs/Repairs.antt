@@ -1,11 +1,12 @@
 -- How a mirror writes a block, and how its restart makes the two copies of each block alike. Assumes nothing.
-use Rattle.std.specs.Prelude.{◌≡◌, ℕ, ◌+◌, ◌<◌, ◌≤◌, Bool, true, false, ◌⊎◌, List, length, Ok, Err, Result, ◌≢◌}
+use Rattle.std.specs.Prelude.{◌≡◌, ℕ, ◌+◌, ◌<◌, true, false, ◌⊎◌, List, length, Some, None, Ok, Err, Option, Result, ◌≢◌}
 use Rattle.faults.specs.declared.faults.Fault.{Fault}
 use Rattle.faults.specs.declared.faults.Layer.{Layer}
 use Rattle.faults.specs.declared.faults.Reason.TheVariants.{Off}
 use Rattle.stores.specs.Meanings.{Content, whole, torn, Meaning, Settled, Lasting, Same, Nothing, Written}
-use Rattle.stores.specs.Outcomes.{Answer, fault, Failed}
-use Rattle.mirrors.specs.Mirrors.{either, Copies}
+use Rattle.stores.specs.Outcomes.{Answer, Failed}
+use Rattle.faults.specs.Refusals.{fault}
+use Rattle.mirrors.specs.Mirrors.{either, half, Copies}
 
 -- a write that is served, and settled by a flush
 pub record Ready (m : Meaning) (a : ℕ) (bytes : List ℕ) : Type 0 where
@@ -25,11 +26,19 @@ abbrev pub StoreOutcome : Layer → Meaning → Meaning → ℕ → List ℕ →
 StoreOutcome source m n a bytes (Ok done) = Stored m n a bytes
 StoreOutcome source m n a bytes (Err e) = Failed source m n (Written a bytes) e
 
--- whether a block is whole, with its bytes in the buffer if so.
-abbrev pub Probed : Layer → Meaning → Meaning → ℕ → List ℕ → Result Bool Fault → Type 0
-Probed source m n b after (Ok true) = (m.reads b ≡ whole after) × Same m n
-Probed source m n b after (Ok false) = (m.reads b ≡ torn) × Same m n
-Probed source m n b after (Err e) = Failed source m n Nothing e
+-- a block's bytes, or none if it is torn; nothing changed
+abbrev pub read_of : Option (List ℕ) → Content
+read_of (Some bytes) = whole bytes
+read_of None = torn
+
+abbrev pub Probed : Layer → Meaning → Meaning → ℕ → Result (Option (List ℕ)) Fault → Type 0
+Probed source m n b (Ok found) = (m.reads b ≡ read_of found) × Same m n
+Probed source m n b (Err e) = Failed source m n Nothing e
+
+-- the first copy's bytes, or the second's if the first is torn, or none if both are; nothing changed
+abbrev pub Both : Layer → Meaning → Meaning → ℕ → ℕ → Result (Option (List ℕ)) Fault → Type 0
+Both source m n a b (Ok found) = (either (m.reads a) (m.reads b) ≡ read_of found) × Same m n
+Both source m n a b (Err e) = Failed source m n Nothing e
 
 -- the store is on and settled, and has these two blocks.
 pub record Twins (m : Meaning) (a b : ℕ) : Type 0 where
@@ -58,29 +67,23 @@ abbrev pub RepairOutcome : Layer → Meaning → Meaning → ℕ → ℕ → Ans
 RepairOutcome source m n a b (Ok _) = Repaired m n a b
 RepairOutcome source m n a b (Err e) = Failed source m n (Mending m a b) e
 
--- the store is on and settled, and has twice as many blocks.
-pub record Halves (m : Meaning) (half : ℕ) : Type 0 where
-  pub on : m.on ≡ true
-  pub settled : Settled m
-  pub fit : half + half ≤ m.size
-
 -- the copies below i are alike, and each block reads in both as before.
-pub record Mended (half i : ℕ) (m n : Meaning) : Type 0 where
+pub record Mended (i : ℕ) (m n : Meaning) : Type 0 where
   pub size : n.size ≡ m.size
   pub on : n.on ≡ true
   pub settled : Settled n
-  pub done : (b : ℕ) → b < i → n.reads b ≡ n.reads (half + b)
-  pub kept : (b : ℕ) → b < half → either (n.reads b) (n.reads (half + b)) ≡ either (m.reads b) (m.reads (half + b))
+  pub done : (b : ℕ) → b < i → n.reads b ≡ n.reads (half m + b)
+  pub kept : (b : ℕ) → b < half m → either (n.reads b) (n.reads (half m + b)) ≡ either (m.reads b) (m.reads (half m + b))
   pub lasts : Lasting m n
 
 -- the supply failed, and each block still reads as before after a restart.
-pub record MendFailed (source : Layer) (half : ℕ) (m n : Meaning) (e : Fault) : Type 0 where
+pub record MendFailed (source : Layer) (m n : Meaning) (e : Fault) : Type 0 where
   pub is : e ≡ fault Off source 0
   pub supply : m.lasts ≡ false
   pub size : n.size ≡ m.size
   pub off : n.on ≡ false
-  pub stands : (b : ℕ) (c : Content) → b < half → Copies n half b c → c ≡ either (m.reads b) (m.reads (half + b))
+  pub stands : (b : ℕ) (c : Content) → b < half m → Copies n b c → c ≡ either (m.reads b) (m.reads (half m + b))
 
-abbrev pub MendOutcome : Layer → ℕ → Meaning → Meaning → Answer → Type 0
-MendOutcome source half m n (Ok _) = Mended half half m n
-MendOutcome source half m n (Err e) = MendFailed source half m n e
+abbrev pub MendOutcome : Layer → Meaning → Meaning → Answer → Type 0
+MendOutcome source m n (Ok _) = Mended (half m) m n
+MendOutcome source m n (Err e) = MendFailed source m n e

@@ -1,4 +1,4 @@
-pub mod Arities
-pub mod Cuts
 pub mod Numbers
+pub mod Sequences
 pub mod Plans
+pub mod Readings

@@ -1,70 +1,124 @@
--- What the reading of a numeral answers. Assumes nothing.
-use Rattle.std.proofs.Common.{◌≡◌, ℕ, ◌^◌, ◌<◌, ◌≤◌, Bool, false, ◌&&◌, leb, List, [], ◌∷◌, get_or, ℤ, pos, neg_ℤ, Some, None, Ok, Err, Decides, MatchBool, Option, sym, refl, ap, ◌∙◌, inl, inr, arith}
-use Rattle.std.specs.Str.Pattern.{FindsCharPrefix}
+-- What the library's reading of a number answers, where no plus sign is in front. Assumes nothing.
+use Rattle.std.proofs.Common.{◌≡◌, ◌≢◌, ℕ, ◌+◌, ◌^◌, ◌<◌, ◌≤◌, ◌&&◌, leb, eqb, List, [], ◌∷◌, get_or, length, lit≤, ℤ, pos, neg_ℤ, Some, None, Ok, Err, Decides, Option, Result, Bor, sym, refl, ap, ◌∙◌, inl, inr, arith, codes}
+use mir.Syntax.{w32}
 use Rattle.std.specs.Option.{option_map}
-use Rattle.std.specs.Str.Parse.{AllDigits, IsNumeral, digits_value, ParsesUnsigned}
+use Rattle.std.specs.Result.{OkIff, result_ok}
+use Rattle.std.specs.Str.Parse.{AllDigits, IsNumeral, digits_value, ParsesUnsigned, ParsesSigned, ExplainsUnsignedError, HasUnsignedDigitsIfOk, ExplainsSignedError, HasSignedDigitsIfOk}
+use Rattle.std.specs.declared.num.ParseIntError.{ParseIntError}
 use Rattle.std.specs.Char.{digit_value}
-use Rattle.std.specs.Str.{IsCharBoundary}
-use Rattle.std.proofs.lemmas.Str.Parse.{without_leading_plus_none}
-use Rattle.std.proofs.lemmas.Bool.{le-leb, ne_eqb, leb-true, cases_Bool, and_from, and_parts, cond-true, cond-false}
-use Rattle.std.proofs.lemmas.Str.Pattern.{starts_char}
-use Rattle.std.proofs.lemmas.Bool.Decides.{Decides-and, Decides-ltb, not_from_Decides}
-use Rattle.parsing.specs.Numerals.{all_digits, is_numeral, read_number, read_offset}
+use Rattle.std.proofs.lemmas.Str.Parse.{IsNumeralModel, numerals_by_value, tells_digits, parse_signed_plain, parse_signed_minus, without_leading_plus_none}
+use Rattle.std.proofs.lemmas.Bool.{le-leb, eq-eqb, ne_eqb, leb-true, eqb-true, eqb-false, cases_Bool, and_from, and_parts, cond-true, cond-false}
+use Rattle.std.proofs.lemmas.Bool.Decides.{Decides-and, Decides-ltb}
+use Rattle.std.specs.Str.Pattern.{LacksTextAt}
+use Rattle.std.proofs.lemmas.Grind.{common_steps}
+use Rattle.parsing.specs.Numerals.{read_seed, all_digits, is_numeral, read_number, read_offset, plain_word, ReadsPlain}
 
-pub decides_digits : (radix : ℕ) (bs : List ℕ) → Decides (all_digits radix bs) (AllDigits radix bs)
+decides_digits : (radix : ℕ) (bs : List ℕ) → Decides (all_digits radix bs) (AllDigits radix bs)
 decides_digits radix [] = ((λ e. tt), (λ u. refl))
 decides_digits radix (c ∷ cs) = Decides-and _ _ (Decides-ltb (digit_value c) radix) (decides_digits radix cs)
 
-pub decides_numeral : (radix : ℕ) (bs : List ℕ) → Decides (is_numeral radix bs) (IsNumeral radix bs)
-decides_numeral radix [] = ((λ e. grind arith), (λ h. let z : ⊥ = omega (arith, h.0) in elim z [ ]))
+decides_numeral : (radix : ℕ) (bs : List ℕ) → Decides (is_numeral radix bs) (IsNumeral radix bs)
+decides_numeral radix [] = ((λ e. grind arith), (λ h. absurd (omega (arith, h.0))))
 decides_numeral radix (c ∷ cs) =
     ((λ e. (omega arith, (decides_digits radix (c ∷ cs)).0 e)), (λ h. (decides_digits radix (c ∷ cs)).1 h.1))
 
-pub read_some : (radix most : ℕ) (bs : List ℕ) (n : ℕ) → IsNumeral radix bs → n ≡ digits_value radix bs → n ≤ most → Some n ≡ read_number radix most bs
-read_some radix most bs n h e l =
-    ap (λ (x : ℕ). Some x) e
-    ∙ sym (cond-true _ _ _ (and_from _ _ ((decides_numeral radix bs).1 h) (le-leb _ _ (omega arith))))
+-- a result that is the number, seen by f, where the word is a numeral within the bound
+module _ (radix most : ℕ) (ds : List ℕ) where
+  read_some : IsNumeral radix ds → digits_value radix ds ≤ most → Some (digits_value radix ds) ≡ read_number radix most ds
+  read_some h l = sym (cond-true _ _ _ (and_from _ _ ((decides_numeral radix ds).1 h) (le-leb _ _ l)))
 
-pub read_none : (radix most : ℕ) (bs : List ℕ) → (IsNumeral radix bs → digits_value radix bs ≤ most → ⊥) → None ≡ read_number radix most bs
-read_none radix most bs no_number =
-    elim (cases_Bool (is_numeral radix bs && leb (digits_value radix bs) most)) [
-      | inl e ↦ elim (no_number ((decides_numeral radix bs).0 (and_parts _ _ e).0) (leb-true _ _ (and_parts _ _ e).1)) [ ]
-      | inr e ↦ sym (cond-false _ _ _ e)
+  read_none : (IsNumeral radix ds → digits_value radix ds ≤ most → ⊥) → None ≡ read_number radix most ds
+  read_none no_number =
+      elim (cases_Bool (is_numeral radix ds && leb (digits_value radix ds) most)) [
+        | inl e ↦ absurd (no_number ((decides_numeral radix ds).0 (and_parts _ _ e).0) (leb-true _ _ (and_parts _ _ e).1))
+        | inr e ↦ sym (cond-false _ _ _ e)
+      ]
+
+  pub reads : {V E P : Type 0} (f : ℕ → V) (q : Result V E) → OkIff q P (f (digits_value radix ds)) → (P → IsNumeral radix ds × (digits_value radix ds ≤ most)) → (IsNumeral radix ds × (digits_value radix ds ≤ most) → P) → result_ok q ≡ option_map f (read_number radix most ds)
+  reads {V} f (Ok x) h to from =
+      let k = to h.0 in
+      ap (λ (y : V). Some y) h.1 ∙ ap (λ (o : Option ℕ). option_map f o) (read_some k.0 k.1)
+  reads f (Err e) h to from = ap (λ (o : Option ℕ). option_map f o) (read_none (λ n m. h (from (n, m))))
+
+-- a plus sign is no digit
+plus_is_none : (radix most : ℕ) (bs : List ℕ) → radix ≤ 36 → get_or bs 0 0 ≡ 43 → None ≡ read_number radix most bs
+plus_is_none radix most [] l e = absurd (omega arith)
+plus_is_none radix most (c ∷ cs) l e = read_none radix most (c ∷ cs) (λ h m. let d : digit_value 43 < radix = rw e at h.1.0 in omega arith)
+
+same_map : {A : Type 0} (o : Option A) → option_map (λ x. x) o ≡ o
+same_map None = refl
+same_map (Some x) = refl
+
+-- a word that has no plus sign in front
+plain_is : (word : List ℕ) → get_or word 0 0 ≢ 43 → plain_word word ≡ Some word
+plain_is word p = rw (ne_eqb (get_or word 0 0) 43 p)
+
+plus_is : (word : List ℕ) → get_or word 0 0 ≡ 43 → plain_word word ≡ None
+plus_is word p = rw (eq-eqb (get_or word 0 0) 43 p)
+
+plain_parts : (word : List ℕ) (o : Option (Bor (List ℕ))) (x : Bor (List ℕ)) → option_map (λ y. y.now) o ≡ plain_word word → o ≡ Some x → (get_or word 0 0 ≢ 43) × (x.now ≡ word)
+plain_parts word o x p e =
+    let same : Some x.now ≡ plain_word word = sym (ap (λ (y : Option (Bor (List ℕ))). option_map (λ z. z.now) y) e) ∙ p in
+    elim (cases_Bool (eqb (get_or word 0 0) 43)) [
+      | inl t ↦ let n : Some x.now ≡ None = rw t at same in absurd (cc n)
+      | inr f ↦ let n : Some x.now ≡ Some word = rw f at same in (eqb-false _ _ f, cc n)
     ]
 
--- a test for a plus sign that failed
-pub no_plus : (bs : List ℕ) (r : Bool) → MatchBool r ((n : ℕ) × FindsCharPrefix 43 bs (Some n) × IsCharBoundary bs n) (FindsCharPrefix 43 bs None) → r ≡ false → get_or bs 0 0 ≡ 43 → ⊥
-no_plus bs r h e = not_from_Decides r (starts_char 43 bs r h (omega arith) (omega arith)) e
+-- what is made of a word by a reader of plain ones
+pub plain_made : {N E : Type 0} (gives : List ℕ → Result N E → Type 0) (word : List ℕ) (o : Option (Bor (List ℕ))) (x : Bor (List ℕ)) (q : Result N E) (r : Option N) → option_map (λ y. y.now) o ≡ plain_word word → o ≡ Some x → gives x.now q → r ≡ result_ok q → ReadsPlain gives word r
+plain_made gives word o x q r p e g m =
+    let parts = plain_parts word o x p e in
+    record {
+      plus = λ s. absurd (cc (s, plain_is word parts.0));
+      plain = λ _. (q, (rw parts.1 at g), m);
+    }
 
--- what `from_str_radix` says of a word, where no plus sign is in front
-module _ (radix most : ℕ) (bs : List ℕ) (plain : get_or bs 0 0 ≡ 43 → ⊥) where
-  pub number_read : (n : ℕ) → ParsesUnsigned {E = ℕ} 64 radix bs (Ok n) → n ≤ most → Some n ≡ read_number radix most bs
-  number_read n h l =
-      let e = without_leading_plus_none bs plain in
-      read_some radix most bs n (rw e at h.0.0) (rw e at h.1) l
+plainly : {N E : Type 0} {gives : List ℕ → Result N E → Type 0} {word : List ℕ} {r : Option N} (x : Option N) → ReadsPlain gives word r → (get_or word 0 0 ≡ 43 → None ≡ x) → (get_or word 0 0 ≢ 43 → (q : Result N E) → gives word q → result_ok q ≡ x) → r ≡ x
+plainly {word = word} x h none some =
+    elim (cases_Bool (eqb (get_or word 0 0) 43)) [
+      | inl e ↦ h.plus (plus_is word (eqb-true _ _ e)) ∙ none (eqb-true _ _ e)
+      | inr e ↦ let m = h.plain (plain_is word (eqb-false _ _ e)) in m.2 ∙ some (eqb-false _ _ e) m.0 m.1
+    ]
 
-  pub number_over : (n : ℕ) → ParsesUnsigned {E = ℕ} 64 radix bs (Ok n) → most < n → None ≡ read_number radix most bs
-  number_over n h l =
-      let v : n ≡ digits_value radix bs = rw (without_leading_plus_none bs plain) at h.1 in
-      read_none radix most bs (λ _ m. omega arith)
+-- an unsigned number of k bits
+pub unsigned : {E : Type 0} (k radix most : ℕ) (word : List ℕ) (q : Result ℕ E) → most + 1 ≡ 2 ^ k → get_or word 0 0 ≢ 43 → ParsesUnsigned k radix word q → result_ok q ≡ read_number radix most word
+unsigned k radix most word q m p h =
+    let g : OkIff q (IsNumeral radix word × (digits_value radix word < 2 ^ k)) (digits_value radix word) = rw (without_leading_plus_none word p) at h in
+    reads radix most word (λ x. x) q g (λ n. let l = n.1 in (n.0, omega arith)) (λ n. let l = n.1 in (n.0, omega arith)) ∙ same_map _
 
-  pub number_none : ParsesUnsigned {E = ℕ} 64 radix bs (Err 0) → most < 2 ^ 64 → None ≡ read_number radix most bs
-  number_none h l =
-      let k : IsNumeral radix bs × (digits_value radix bs < 2 ^ 64) → ⊥ = rw (without_leading_plus_none bs plain) at h in
-      read_none radix most bs (λ n m. k (n, omega arith))
+pub plain_number : (k most : ℕ) {word : List ℕ} {r : Option ℕ} → most + 1 ≡ 2 ^ k → ReadsPlain (λ t (q : Result ℕ ParseIntError). ParsesUnsigned k 10 t q × ExplainsUnsignedError 10 t q × HasUnsignedDigitsIfOk t q) word r → r ≡ read_number 10 most word
+plain_number k most {word} m h =
+    plainly _ h (plus_is_none 10 most word (lit≤ tt)) (λ p q g. unsigned k 10 most word q m p g.0)
 
--- an offset with a minus sign, and with none
-pub offset_minus : (bs ds : List ℕ) → bs ≡ 45 ∷ ds → read_offset bs ≡ option_map (λ n. neg_ℤ (pos n)) (read_number 10 0x8000_0000 ds)
-offset_minus bs ds e = ap (λ (t : List ℕ). read_offset t) e
+-- a signed number of 32 bits
+own : IsNumeralModel (AllDigits 10) (digits_value 10)
+own = numerals_by_value (AllDigits 10) tells_digits
 
-pub offset_plain : (bs : List ℕ) → ((rest : List ℕ) → bs ≡ 45 ∷ rest → ⊥) → read_offset bs ≡ option_map pos (read_number 10 0x7FFF_FFFF bs)
-offset_plain [] h = refl
-offset_plain (a ∷ rest) h = rw (ne_eqb a 45 (λ e. h rest (ap (λ (x : ℕ). x ∷ rest) e)))
+within : {E : Type 0} (most : ℕ) (ds : List ℕ) (f : ℕ → ℤ) (q : Result ℤ E) (bound : Type 0) → OkIff q (AllDigits 10 ds × (0 < length ds) × bound) (f (digits_value 10 ds)) → (bound → digits_value 10 ds ≤ most) → (digits_value 10 ds ≤ most → bound) → result_ok q ≡ option_map f (read_number 10 most ds)
+within most ds f q bound h to from = reads 10 most ds f q h (λ n. ((n.1, n.0), to n.2)) (λ n. (n.0.1, n.0.0, from n.1))
 
--- the number in it is none
-pub no_offset_minus : (bs ds : List ℕ) (o : Option ℕ) (r : Option ℤ) → bs ≡ 45 ∷ ds → o ≡ read_number 10 0x8000_0000 ds → o ≡ None → r ≡ None → r ≡ read_offset bs
-no_offset_minus bs ds o r e h n m =
-    m ∙ sym (offset_minus bs ds e ∙ ap (λ (x : Option ℕ). option_map (λ k. neg_ℤ (pos k)) x) (sym h ∙ n))
+signed : {E : Type 0} (word : List ℕ) (q : Result ℤ E) → get_or word 0 0 ≢ 43 → ParsesSigned w32 10 word q → result_ok q ≡ read_offset word
+signed [] q p h =
+    within 0x7FFF_FFFF [] pos q _ (parse_signed_plain own w32 [] q h p (λ e. absurd (omega arith))) (λ l. omega arith) (λ l. omega arith)
+signed (a ∷ rest) q p h =
+    elim (cases_Bool (eqb a 45)) [
+      | inl e ↦ rw e (within 0x8000_0000 rest (λ n. neg_ℤ (pos n)) q _ (parse_signed_minus own w32 (a ∷ rest) q h (eqb-true _ _ e)) (λ l. omega arith) (λ l. omega arith))
+      | inr e ↦ rw e (within 0x7FFF_FFFF (a ∷ rest) pos q _ (parse_signed_plain own w32 (a ∷ rest) q h p (eqb-false _ _ e)) (λ l. omega arith) (λ l. omega arith))
+    ]
 
-pub no_offset_plain : (bs : List ℕ) (o : Option ℕ) (r : Option ℤ) → ((rest : List ℕ) → bs ≡ 45 ∷ rest → ⊥) → o ≡ read_number 10 0x7FFF_FFFF bs → o ≡ None → r ≡ None → r ≡ read_offset bs
-no_offset_plain bs o r plain h n m = m ∙ sym (offset_plain bs plain ∙ ap (λ (x : Option ℕ). option_map pos x) (sym h ∙ n))
+plus_no_offset : (word : List ℕ) → get_or word 0 0 ≡ 43 → None ≡ read_offset word
+plus_no_offset [] e = absurd (omega arith)
+plus_no_offset (a ∷ rest) e = rw e (ap (λ (o : Option ℕ). option_map pos o) (plus_is_none 10 0x7FFF_FFFF (43 ∷ rest) (lit≤ tt) refl))
+
+pub plain_offset : {word : List ℕ} {r : Option ℤ} → ReadsPlain (λ t (q : Result ℤ ParseIntError). ParsesSigned w32 10 t q × ExplainsSignedError 10 t q × HasSignedDigitsIfOk t q) word r → r ≡ read_offset word
+plain_offset {word} h = plainly _ h (plus_no_offset word) (λ p q g. signed word q p g.0)
+
+-- a plain word's digits in another radix
+pub read_radix : {E : Type 0} (radix : ℕ) (word : List ℕ) (o : Option (Bor (List ℕ))) (x : Bor (List ℕ)) (q : Result ℕ E) → option_map (λ y. y.now) o ≡ plain_word word → o ≡ Some x → ParsesUnsigned 64 radix x.now q → result_ok q ≡ read_number radix 0xFFFF_FFFF_FFFF_FFFF word
+read_radix radix word o x q p e h =
+    let parts = plain_parts word o x p e in
+    unsigned 64 radix 0xFFFF_FFFF_FFFF_FFFF word q refl parts.0 (rw parts.1 at h)
+
+-- a word that does not begin with 0x
+pub no_hex : (word : List ℕ) → LacksTextAt (codes "0x") word 0 → read_number 10 0xFFFF_FFFF_FFFF_FFFF word ≡ read_seed word
+no_hex word h = grind (arith, common_steps)

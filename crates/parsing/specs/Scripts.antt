@@ -1,6 +1,9 @@
 -- What a whole script says. Assumes nothing.
-use Rattle.std.specs.Prelude.{◌≡◌, ℕ, ◌+◌, List, [], ◌∷◌, ◌++◌, map, Some, None, Ok, Err, vec_items, Option, Result}
+use Rattle.std.specs.Prelude.{ℕ, ◌+◌, List, [], ◌∷◌, ◌++◌, map, Some, None, Ok, Err, vec_items, Option, Result}
 use Rattle.std.specs.Global.{Vec}
+use Rattle.failures.specs.Answers.{UnlessMemory}
+use Rattle.failures.specs.declared.Failure.{Failure}
+use Rattle.failures.specs.declared.Failure.TheVariants.{Because, Memory}
 use Rattle.parsing.specs.Words.{lines_of, words_of}
 use Rattle.parsing.specs.Lines.{read_line}
 use Rattle.script.specs.declared.commands.Command.{Command}
@@ -10,8 +13,6 @@ use Rattle.script.specs.declared.commands.Scenario.{Scenario}
 use Rattle.script.specs.declared.expectations.BadLine.{BadLine}
 use Rattle.script.specs.declared.expectations.Expected.{Expected}
 use Rattle.script.specs.declared.expectations.Expected.TheVariants.{ReservoirFirst}
-use Rattle.script.specs.declared.expectations.Unread.{Unread}
-use Rattle.script.specs.declared.expectations.Unread.TheVariants.{Bad, Memory}
 
 -- a scenario as the script has it
 pub record Plan : Type 0 where
@@ -54,6 +55,11 @@ abbrev pub onward : ℕ → Result (List Plan) Expected → (List Plan → Resul
 onward k (Ok plans) next = next plans
 onward k (Err e) next = Err (record { line = k; expected = e })
 
+-- a failure to read line k, as that of the script
+abbrev pub of_line : ℕ → Failure Expected → Failure BadLine
+of_line k (Because e) = Because (record { line = k; expected = e })
+of_line k Memory = Memory
+
 -- these lines, of which the first has the number k, after the plans so far
 abbrev pub read_lines : ℕ → List Plan → List (List ℕ) → Result (List Plan) BadLine
 read_lines k plans [] = Ok plans
@@ -64,13 +70,9 @@ abbrev pub read_script : List ℕ → Result (List Plan) BadLine
 read_script text = read_lines 1 [] (lines_of text)
 
 -- r is what the script says; a want of memory says nothing of it
-abbrev pub Parsed : List ℕ → Result (Vec Scenario) Unread → Type 0
-Parsed text (Ok v) = read_script text ≡ Ok (map plan_of (vec_items v))
-Parsed text (Err (Bad bad)) = read_script text ≡ Err bad
-Parsed text (Err Memory) = Unit {0}
+abbrev pub Parsed : List ℕ → Result (Vec Scenario) (Failure BadLine) → Type 0
+Parsed text r = UnlessMemory (λ v. map plan_of (vec_items v)) (read_script text) r
 
--- what line k may answer, where the plans become `made` by it, and these scenarios are left
-abbrev pub Added : ℕ → Result (List Plan) Expected → List Scenario → Result Unit Unread → Type 0
-Added k made scenarios (Ok done) = made ≡ Ok (map plan_of scenarios)
-Added k made scenarios (Err (Bad bad)) = made ≡ Err bad.expected × (bad.line ≡ k)
-Added k made scenarios (Err Memory) = Unit {0}
+-- what a line may answer, where the plans become `made` by it, and these scenarios are left
+abbrev pub Added : Result (List Plan) Expected → List Scenario → Result Unit (Failure Expected) → Type 0
+Added made scenarios r = UnlessMemory (λ done. map plan_of scenarios) made r

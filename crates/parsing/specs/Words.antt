@@ -1,26 +1,19 @@
 -- How a text is cut into lines and words. Assumes nothing.
-use Rattle.std.specs.Prelude.{ℕ, cond, List, [], ◌∷◌, ◌==◌}
+use Rattle.std.specs.Prelude.{ℕ, not, List, map, length, filter, ◌==◌}
+use Rattle.std.specs.List.{slice_split, before_first}
+use Rattle.std.specs.Borrow.{Bor}
 
--- a byte in front of the first piece
-abbrev pub onto : ℕ → List (List ℕ) → List (List ℕ)
-onto b [] = (b ∷ []) ∷ []
-onto b (x ∷ xs) = (b ∷ x) ∷ xs
+-- what the references point to
+abbrev pub texts : List (Bor (List ℕ)) → List (List ℕ)
+texts words = map (λ x. x.now) words
 
 -- the pieces of a text between the bytes `at`, empty ones too
 abbrev pub cut : ℕ → List ℕ → List (List ℕ)
-cut at [] = [] ∷ []
-cut at (b ∷ bs) = cond (b == at) ([] ∷ cut at bs) (onto b (cut at bs))
+cut at text = slice_split (λ b. b == at) text
 
 -- the pieces that are not empty
 abbrev pub filled : List (List ℕ) → List (List ℕ)
-filled [] = []
-filled ([] ∷ xs) = filled xs
-filled ((b ∷ bs) ∷ xs) = (b ∷ bs) ∷ filled xs
-
--- the first piece
-abbrev pub first : List (List ℕ) → List ℕ
-first [] = []
-first (x ∷ xs) = x
+filled pieces = filter (λ piece. not (length piece == 0)) pieces
 
 -- a text's lines, between line feeds
 abbrev pub lines_of : List ℕ → List (List ℕ)
@@ -28,7 +21,7 @@ lines_of text = cut 10 text
 
 -- what a line has before its comment, which a `#` starts
 abbrev pub uncommented : List ℕ → List ℕ
-uncommented line = first (cut 35 line)
+uncommented line = before_first (λ b. b == 35) line
 
 -- a line's words, between spaces
 abbrev pub words_of : List ℕ → List (List ℕ)

@@ -1,19 +1,26 @@
-ghost use Rattle.std.specs.Prelude.{◌≡◌, ◌≤◌};
-ghost use Rattle.parsing.specs.Numerals.{read_number, read_seed, read_offset};
+ghost use Rattle.std.specs.Prelude.{◌≡◌, map};
+ghost use Rattle.std.specs.Option.{option_map};
+ghost use Rattle.parsing.specs.Numerals.{ReadsPlain, plain_word, read_seed};
 
-// The number that a word of digits writes, if it is at most `most`. A sign is no digit.
-pub(crate) fn number(word: &str, radix: u32, most: u64) -> Option<u64>
-    requires low { 2 ≤ radix }
-    requires high { radix ≤ 36 }
-    ensures { result ≡ read_number radix most word.now }
+use std::str::FromStr;
+
+// The word, unless it begins with a plus sign, which the library would read past.
+fn plain(word: &str) -> Option<&str>
+    ensures { option_map (λ x. x.now) result ≡ plain_word word.now }
 {
     if word.starts_with('+') {
         return None;
     }
-    match u64::from_str_radix(word, radix) {
-        Ok(n) if n <= most => Some(n),
-        _ => None,
-    }
+    Some(word)
+}
+
+// The decimal number that a word writes, if it is one of N: digits alone, behind a minus sign where N goes below 0.
+pub(crate) fn number<N: FromStr>(word: &str) -> Option<N>
+where
+    N::Err: Drop,
+    ensures { ReadsPlain N.from_str_gives word.now result }
+{
+    plain(word)?.parse::<N>().ok()
 }
 
 // A seed: hexadecimal after 0x, and else decimal.
@@ -21,17 +28,7 @@ pub(crate) fn seed(word: &str) -> Option<u64>
     ensures { result ≡ read_seed word.now }
 {
     match word.strip_prefix("0x") {
-        Some(digits) => number(digits, 16, u64::MAX),
-        None => number(word, 10, u64::MAX),
-    }
-}
-
-// An offset, which alone may be below 0.
-pub(crate) fn offset(word: &str) -> Option<i32>
-    ensures { result ≡ read_offset word.now }
-{
-    match word.strip_prefix('-') {
-        Some(digits) => Some((-(number(digits, 10, 0x8000_0000)? as i64)) as i32),
-        None => Some(number(word, 10, 0x7FFF_FFFF)? as i32),
+        Some(digits) => u64::from_str_radix(plain(digits)?, 16).ok(),
+        None => number(word),
     }
 }

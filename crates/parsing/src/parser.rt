@@ -1,36 +1,31 @@
 ghost use Rattle.std.specs.Prelude.{◌≡◌, map, Some};
-ghost use Rattle.parsing.specs.Scripts.{plan_of, add_line, add_text, Added, Parsed};
+ghost use Rattle.parsing.specs.Scripts.{plan_of, add_line, add_text, of_line, Added, Parsed};
 ghost use Rattle.parsing.specs.declared.forms.Line.TheVariants.{Asks};
 
 use crate::forms::Line;
 use crate::lines::read;
-use crate::words::pieces;
+use failures::Failure;
 use script::{BadLine, Command, Expected, Scenario, Unread};
 use std::alloc::Global;
 
-// Line k asks something of the last scenario, which is taken out and put back with the command. Where memory runs
-// out on the way no scenario is read at all, so nothing is lost by it.
-fn ask(scenarios: &mut Vec<Scenario>, k: usize, command: Command) -> Result<(), Unread>
-    ensures { Added k (add_line (map plan_of scenarios.old.items) (Some (Asks command))) scenarios.new.items result }
+// Asks something of the last scenario.
+fn ask(scenarios: &mut Vec<Scenario>, command: Command) -> Result<(), Failure<Expected>>
+    ensures { Added (add_line (map plan_of scenarios.old.items) (Some (Asks command))) scenarios.new.items result }
 {
-    let Some(mut last) = scenarios.pop() else {
-        return Err(Unread::Bad(BadLine {
-            line: k,
-            expected: Expected::ReservoirFirst,
-        }));
-    };
+    let last = scenarios
+        .last_mut()
+        .ok_or(Failure::Because(Expected::ReservoirFirst))?;
     last.commands.push(command)?;
-    scenarios.push(last)?;
     Ok(())
 }
 
-// Adds what line k says to the scenarios so far.
-fn add(heap: Global, scenarios: &mut Vec<Scenario>, k: usize, text: &str) -> Result<(), Unread>
-    ensures { Added k (add_text (map plan_of scenarios.old.items) text.now) scenarios.new.items result }
+// Adds what a line says to the scenarios so far.
+fn add(heap: Global, scenarios: &mut Vec<Scenario>, text: &str) -> Result<(), Failure<Expected>>
+    ensures { Added (add_text (map plan_of scenarios.old.items) text.now) scenarios.new.items result }
 {
     match read(heap, text)? {
-        Ok(None) => Ok(()),
-        Ok(Some(Line::Reservoir { size, seed })) => {
+        None => Ok(()),
+        Some(Line::Reservoir { size, seed }) => {
             scenarios.push(Scenario {
                 size,
                 seed,
@@ -38,8 +33,17 @@ fn add(heap: Global, scenarios: &mut Vec<Scenario>, k: usize, text: &str) -> Res
             })?;
             Ok(())
         }
-        Ok(Some(Line::Asks(command))) => ask(scenarios, k, command),
-        Err(expected) => Err(Unread::Bad(BadLine { line: k, expected })),
+        Some(Line::Asks(command)) => ask(scenarios, command),
+    }
+}
+
+// A failure to read a line, as that of the script.
+fn of_line(line: usize, failure: Failure<Expected>) -> Unread
+    ensures { result ≡ of_line line failure }
+{
+    match failure {
+        Failure::Because(expected) => Failure::Because(BadLine { line, expected }),
+        Failure::Memory => Failure::Memory,
     }
 }
 
@@ -47,10 +51,9 @@ fn add(heap: Global, scenarios: &mut Vec<Scenario>, k: usize, text: &str) -> Res
 pub fn parse(heap: Global, text: &str) -> Result<Vec<Scenario>, Unread>
     ensures { Parsed text.now result }
 {
-    let lines = pieces(heap, text, '\n')?;
     let mut scenarios = Vec::new(heap);
-    for (i, line) in lines.iter().enumerate() { // i up to lines.len() - 1
-        add(heap, &mut scenarios, i + 1, line)?;
+    for (i, line) in text.split('\n').enumerate() { // i up to the number of line feeds
+        add(heap, &mut scenarios, line).map_err(|failure| of_line(i + 1, failure))?;
     }
     Ok(scenarios)
 }

@@ -1,6 +1,7 @@
 -- What is printed of a command and its answer. Assumes nothing.
-use Rattle.std.specs.Prelude.{ℕ, cond, List, [], ◌∷◌, ◌++◌, length, ℤ, Some, None, codes, decimal, ◌==◌}
+use Rattle.std.specs.Prelude.{ℕ, cond, List, ◌++◌, length, ℤ, Some, None, codes, decimal, ◌==◌}
 use Rattle.std.specs.Fmt.{signed_decimal}
+use Rattle.std.specs.List.{flat_map}
 use Rattle.faults.specs.Numbers.{reason_number, layer_number}
 use Rattle.faults.specs.declared.faults.Fault.{Fault}
 use Rattle.records.specs.Offsets.{Fields}
@@ -28,8 +29,7 @@ abbrev pub row_text : ℕ × Fields → List ℕ
 row_text x = codes "slot " ++ (decimal x.0 ++ (codes ": " ++ (fields_text x.1 ++ codes "\n")))
 
 abbrev pub rows_text : List (ℕ × Fields) → List ℕ
-rows_text [] = []
-rows_text (x ∷ xs) = row_text x ++ rows_text xs
+rows_text xs = flat_map row_text xs
 
 -- the mean and how many records it is over, or none
 abbrev pub mean_line : ℤ → ℕ → List ℕ

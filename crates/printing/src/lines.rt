@@ -10,7 +10,7 @@ use scenarios::{Answer, Report, Row};
 use script::Command;
 use std::fmt;
 
-// A command's first word.
+// A command's first word alone: a Display of a command would show its numbers too.
 pub fn name(command: Command) -> &'static str
     ensures { result.now ≡ name_of command }
 {
@@ -29,10 +29,14 @@ impl fmt::Display for OffsetNumbers {
     ghost output = { λ x. Some (fields_text (offset_fields x.0)) };
 
     fn fmt<W: fmt::Write>(&self, f: &mut fmt::Formatter<W>) -> fmt::Result {
-        let second = self.0.second.value();
-        let satellite = self.0.satellite.value();
-        let nanoseconds = self.0.nanoseconds.value();
-        write!(f, "{second} {satellite} {nanoseconds}")
+        let OffsetNumbers(offset) = self;
+        write!(
+            f,
+            "{} {} {}",
+            offset.second.value(),
+            offset.satellite.value(),
+            offset.nanoseconds.value()
+        )
     }
 }
 
@@ -44,10 +48,14 @@ impl fmt::Display for FaultNumbers {
     ghost output = { λ x. Some (refusal_text x.0) };
 
     fn fmt<W: fmt::Write>(&self, f: &mut fmt::Formatter<W>) -> fmt::Result {
-        let number = self.0.reason.number();
-        let layer = self.0.layer.number();
-        let place = self.0.place;
-        write!(f, "{number} {layer} {place}")
+        let FaultNumbers(fault) = self;
+        write!(
+            f,
+            "{} {} {}",
+            u8::from(fault.reason),
+            u8::from(fault.layer),
+            fault.place
+        )
     }
 }
 
@@ -59,11 +67,8 @@ impl fmt::Display for Rows<'_> {
     ghost output = { λ x. Some (rows_text (map row_of x.0.now)) };
 
     fn fmt<W: fmt::Write>(&self, f: &mut fmt::Formatter<W>) -> fmt::Result {
-        let rows = self.0;
-        for row in rows {
-            let slot = row.slot;
-            let numbers = OffsetNumbers(row.offset);
-            write!(f, "slot {slot}: {numbers}\n")?;
+        for row in self.0 {
+            writeln!(f, "slot {}: {}", row.slot, OffsetNumbers(row.offset))?;
         }
         Ok(())
     }
@@ -77,12 +82,11 @@ impl fmt::Display for Over {
     ghost output = { λ x. Some (mean_line x.0.sum x.0.count) };
 
     fn fmt<W: fmt::Write>(&self, f: &mut fmt::Formatter<W>) -> fmt::Result {
-        let mean = self.0;
-        let count = mean.count;
-        if count == 0 {
-            return write!(f, "mean none");
+        let Over(mean) = self;
+        if mean.count == 0 {
+            return f.write_str("mean none");
         }
-        write!(f, "mean {mean} ns over {count}")
+        write!(f, "mean {mean} ns over {}", mean.count)
     }
 }
 
@@ -94,21 +98,21 @@ impl fmt::Display for Whole<'_> {
     ghost output = { λ x. Some (report_text x.0.now.count (map row_of x.0.now.rows.items) x.0.now.sum) };
 
     fn fmt<W: fmt::Write>(&self, f: &mut fmt::Formatter<W>) -> fmt::Result {
-        let count = self.0.count;
-        let rows = Rows(self.0.rows.as_slice());
+        let Whole(report) = self;
+        let rows = Rows(report.rows.as_slice());
         let over = Over(Mean {
-            sum: self.0.sum,
-            count: self.0.rows.len() as u64,
+            sum: report.sum,
+            count: report.rows.len() as u64,
         });
-        write!(f, "counted {count}\n{rows}{over}")
+        write!(f, "counted {}\n{rows}{over}", report.count)
     }
 }
 
-// A command with its answer, as they are printed.
+// A command with its answer or refusal, as they are printed.
 #[derive(Drop)]
 pub struct Said<'a> {
     pub command: Command,
-    pub answer: &'a Answer,
+    pub answer: &'a Result<Answer, Fault>,
 }
 
 impl fmt::Display for Said<'_> {
@@ -117,20 +121,11 @@ impl fmt::Display for Said<'_> {
     fn fmt<W: fmt::Write>(&self, f: &mut fmt::Formatter<W>) -> fmt::Result {
         let name = name(self.command);
         match self.answer {
-            Answer::Inserted(Some(slot)) => write!(f, "{name} ok {slot}"),
-            Answer::Inserted(None) => write!(f, "{name} ok none"),
-            Answer::Found(offset) => {
-                let numbers = OffsetNumbers(*offset);
-                write!(f, "{name} ok {numbers}")
-            }
-            Answer::Told(report) => {
-                let whole = Whole(report);
-                write!(f, "{whole}")
-            }
-            Answer::Refused(fault) => {
-                let numbers = FaultNumbers(*fault);
-                write!(f, "{name} refused {numbers}")
-            }
+            Ok(Answer::Inserted(Some(slot))) => write!(f, "{name} ok {slot}"),
+            Ok(Answer::Inserted(None)) => write!(f, "{name} ok none"),
+            Ok(Answer::Found(offset)) => write!(f, "{name} ok {}", OffsetNumbers(*offset)),
+            Ok(Answer::Told(report)) => write!(f, "{}", Whole(report)),
+            Err(fault) => write!(f, "{name} refused {}", FaultNumbers(*fault)),
         }
     }
 }

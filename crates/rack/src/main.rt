@@ -1,7 +1,7 @@
 // Reads a script from standard input, works it, and prints what each command is answered.
 #![tactic(auto)]
 
-use anyhow::anyhow;
+use anyhow::bail;
 use std::io;
 use transcripts::transcript;
 
@@ -12,7 +12,7 @@ fn run(rt: &HostRuntime) -> anyhow::Result<()> {
         Ok(out) => print!(rt; "{out}")?,
         Err(unread) => {
             println!(rt; "{unread}")?;
-            return Err(anyhow!("the script was not run"));
+            bail!("the script was not run");
         }
     }
     Ok(())

@@ -1,68 +1,74 @@
 -- Fields are their numbers, and the numbers in range are fields. Assumes nothing.
-use Rattle.std.specs.Prelude.{◌≡◌, ℕ, ◌≤◌, Bool, true, false, cond, ℤ, pos, negsuc, ◌≤ℤ◌, Some, None, Option, FitsSigned, refl}
-use Rattle.std.proofs.Common.{arith}
+use Rattle.std.specs.Prelude.{◌≡◌, ℕ, Bool, true, false, cond, ℤ, pos, neg_ℤ, ◌≤ℤ◌, Some, None, Option, FitsSigned, option_map, nat_le, refl}
+use Rattle.std.proofs.Common.{arith, sym, ap, ◌∙◌, negsuc}
+use Rattle.std.proofs.Props.{props}
 use Rattle.std.specs.Int.{w32}
-use denote.Struct.Record.{values_one}
+use mathlib.Core.HLevel.{is_prop→PathP}
 use Rattle.std.proofs.lemmas.Int.{ints}
 use Rattle.std.proofs.lemmas.Bool.Decides.{nat_tests}
-use Rattle.records.specs.Fields.{second_of, satellite_of, nanoseconds_of, is_second, is_satellite, is_nanoseconds}
-use Rattle.records.specs.declared.fields.Nanoseconds.{Nanoseconds}
-use Rattle.records.specs.declared.fields.Satellite.{Satellite}
-use Rattle.records.specs.declared.fields.Second.{Second}
-use Rattle.records.specs.contracts.fields.Nanoseconds as nanoseconds
-use Rattle.records.specs.contracts.fields.Satellite as satellite
-use Rattle.records.specs.contracts.fields.Second as second
+use Rattle.records.specs.Fields.{number_of, second_of, satellite_of, is_within, is_second, is_satellite}
+use Rattle.records.specs.declared.fields.InRange.{InRange}
+use Rattle.records.specs.declared.wholes.Whole.{Ghosts}
+use Rattle.records.specs.contracts.wholes.I32Whole.TheImpl as i32
+use Rattle.records.specs.contracts.wholes.U32Whole.TheImpl as u32
+use Rattle.records.specs.contracts.wholes.U8Whole.TheImpl as u8
 
--- two fields with the same number are the same
-pub same_second : (r s : Second) → second_of r ≡ second_of s → r ≡ s
-same_second r s e = values_one second.struct second.the_propositions r s (cc)
+-- an order between whole numbers holds in one way at most
+order_prop : (a b : ℤ) → IsProp (a ≤ℤ b)
+order_prop a b = hlevel props
 
-pub same_satellite : (r s : Satellite) → satellite_of r ≡ satellite_of s → r ≡ s
-same_satellite r s e = values_one satellite.struct satellite.the_propositions r s (cc)
+module _ {N : Type 0} {below above : ℕ} {w : Ghosts N} where
+  -- two fields of one range with the same number are the same
+  pub same_number : (r s : InRange N below above w) → number_of r ≡ number_of s → r ≡ s
+  same_number r s e = λ i. record {
+    number = e i;
+    low = is_prop→PathP (λ j. neg_ℤ (pos below) ≤ℤ w.whole (e j)) (λ j. order_prop _ _) r.low s.low i;
+    high = is_prop→PathP (λ j. w.whole (e j) ≤ℤ pos above) (λ j. order_prop _ _) r.high s.high i;
+  }
 
-pub same_nanoseconds : (r s : Nanoseconds) → nanoseconds_of r ≡ nanoseconds_of s → r ≡ s
-same_nanoseconds r s e = values_one nanoseconds.struct nanoseconds.the_propositions r s (cc)
+  -- a field's number is in its range
+  pub number_right : (r : InRange N below above w) → is_within below above (w.whole (number_of r)) ≡ true
+  number_right r = let l = r.low in let h = r.high in grind (arith, nat_tests, ints)
 
--- a field's number is in its range
-pub second_in_lem : (s : Second) → is_second (second_of s) ≡ true
-second_in_lem s = let h = s.ok in grind (arith, nat_tests)
+-- what the test of a range says
+low_range : (below above : ℕ) (z : ℤ) → is_within below above z ≡ true → neg_ℤ (pos below) ≤ℤ z
+low_range below above z e = grind (arith, nat_tests, ints)
 
-pub satellite_in_lem : (s : Satellite) → is_satellite (satellite_of s) ≡ true
-satellite_in_lem s = let h = s.ok in grind (arith, nat_tests)
-
-pub nanoseconds_in_lem : (n : Nanoseconds) → is_nanoseconds (nanoseconds_of n) ≡ true
-nanoseconds_in_lem n = let l = n.low in let h = n.high in grind (arith, nat_tests, ints)
+high_range : (below above : ℕ) (z : ℤ) → is_within below above z ≡ true → z ≤ℤ pos above
+high_range below above z e = grind (arith, nat_tests, ints)
 
 -- a number in range is a field's
-second_range : (n : ℕ) → is_second n ≡ true → n ≤ 604799
-second_range n e = grind (arith, nat_tests)
+pub a_field : {N : Type 0} {below above : ℕ} {w : Ghosts N} (n : N) → is_within below above (w.whole n) ≡ true
+    → (r : InRange N below above w) × (number_of r ≡ n)
+a_field {N} {below} {above} {w} n e =
+    (record { number = n; low = low_range below above (w.whole n) e; high = high_range below above (w.whole n) e }, refl)
 
-satellite_range : (n : ℕ) → is_satellite n ≡ true → n ≤ 31
-satellite_range n e = grind (arith, nat_tests)
+-- a range that begins at 0 is tested by its greatest number alone
+from_zero : (above n : ℕ) → is_within 0 above (pos n) ≡ nat_le n above
+from_zero above n = grind (arith, nat_tests, ints)
 
-low_range : (z : ℤ) → is_nanoseconds z ≡ true → negsuc 499999999 ≤ℤ z
-low_range z e = grind (arith, nat_tests, ints)
+-- the same of seconds and satellites
+pub second_right : (s : InRange ℕ 0 604799 u32.ghosts) → is_second (second_of s) ≡ true
+second_right s = sym (from_zero 604799 (second_of s)) ∙ number_right s
 
-high_range : (z : ℤ) → is_nanoseconds z ≡ true → z ≤ℤ pos 500000000
-high_range z e = grind (arith, nat_tests, ints)
+pub satellite_right : (s : InRange ℕ 0 31 u8.ghosts) → is_satellite (satellite_of s) ≡ true
+satellite_right s = sym (from_zero 31 (satellite_of s)) ∙ number_right s
 
-pub a_second : (n : ℕ) → is_second n ≡ true → (s : Second) × (second_of s ≡ n)
-a_second n e = (record { second = n; ok = second_range n e }, refl)
+pub a_second : (n : ℕ) → is_second n ≡ true → (s : InRange ℕ 0 604799 u32.ghosts) × (second_of s ≡ n)
+a_second n e = a_field n (from_zero 604799 n ∙ e)
 
-pub a_satellite : (n : ℕ) → is_satellite n ≡ true → (s : Satellite) × (satellite_of s ≡ n)
-a_satellite n e = (record { satellite = n; ok = satellite_range n e }, refl)
+pub a_satellite : (n : ℕ) → is_satellite n ≡ true → (s : InRange ℕ 0 31 u8.ghosts) × (satellite_of s ≡ n)
+a_satellite n e = a_field n (from_zero 31 n ∙ e)
 
-pub a_nanoseconds : (z : ℤ) → is_nanoseconds z ≡ true → (n : Nanoseconds) × (nanoseconds_of n ≡ z)
-a_nanoseconds z e = (record { nanoseconds = z; low = low_range z e; high = high_range z e }, refl)
-
-fits_32 : (z : ℤ) → negsuc 499999999 ≤ℤ z → z ≤ℤ pos 500000000 → FitsSigned w32 z
+-- nanoseconds fit 32 bits
+fits_32 : (z : ℤ) → neg_ℤ (pos 500000000) ≤ℤ z → z ≤ℤ pos 500000000 → FitsSigned w32 z
 fits_32 (pos n) l h = record { sfits = omega (arith, ints) }
 fits_32 (negsuc n) l h = record { sfits = omega (arith, ints) }
 
-pub nanoseconds_fit : (n : Nanoseconds) → FitsSigned w32 (nanoseconds_of n)
-nanoseconds_fit n = fits_32 n.nanoseconds n.low n.high
+pub nanoseconds_fit : (n : InRange ℤ 500000000 500000000 i32.ghosts) → FitsSigned w32 (number_of n)
+nanoseconds_fit n = fits_32 n.number n.low n.high
 
--- what was made of a number in range has that number
-pub made_of : {A : Type 0} (b : Bool) (v x : A) → ◌≡◌ {A = Option A} (Some x) (cond b (Some v) None) → x ≡ v
-made_of true v x e = cc
-made_of false v x e = let z : ◌≡◌ {A = ℕ} 0 1 = cc in absurd (omega arith)
+-- a field that was made of a number has that number
+pub made_of : {R A : Type 0} (view : R → A) (o : Option R) (r : R) (b : Bool) (v : A) → o ≡ Some r → option_map view o ≡ cond b (Some v) None → view r ≡ v
+made_of view o r true v is e = cc (ap (option_map view) is)
+made_of view o r false v is e = cc (ap (option_map view) is)

@@ -2,9 +2,9 @@ pub mod Bytes
 pub mod Fields
 pub mod Reading
 pub mod Offsets
+pub mod Happenings
 pub mod Events
 pub mod EventLaws
 pub mod FieldLaws
-pub mod Fours
 pub mod Twelves
 pub mod OffsetLaws

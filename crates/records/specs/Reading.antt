@@ -1,5 +1,6 @@
 -- What making or reading a record answers: the record, or the first wrong field. Assumes nothing.
 use Rattle.std.specs.Prelude.{ℕ, Bool, cond, List, [], ◌∷◌, length, Some, None, Ok, Err, Option, Result, ◌==◌}
+use Rattle.faults.specs.Refusals.{fault}
 use Rattle.faults.specs.declared.faults.Fault.{Fault}
 use Rattle.faults.specs.declared.faults.Layer.TheVariants.{Record}
 use Rattle.faults.specs.declared.faults.Reason.TheVariants.{NoSuchRecord, WrongLength}
@@ -11,11 +12,11 @@ first_wrong (x ∷ xs) = cond x.0 (first_wrong xs) (Some x.1)
 
 -- the refusal of a wrong field that begins at this byte
 abbrev pub no_such_record : ℕ → Fault
-no_such_record place = record { reason = NoSuchRecord; layer = Record; place = place }
+no_such_record place = fault NoSuchRecord Record place
 
 -- the refusal of bytes that are not twelve
 abbrev pub wrong_length : ℕ → Fault
-wrong_length n = record { reason = WrongLength; layer = Record; place = n }
+wrong_length n = fault WrongLength Record n
 
 -- a value, unless a field is wrong
 abbrev pub judged : {A : Type 0} → Option ℕ → A → Result A Fault

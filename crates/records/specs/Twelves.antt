@@ -1,30 +1,27 @@
 -- Lists of twelve bytes, and what reading a record's own answers. Assumes nothing.
-use Rattle.std.specs.Prelude.{◌≡◌, ℕ, zero, suc, ◌<◌, List, [], ◌∷◌, length, Some, None, Ok, Option, Result, slice_index, refl}
-use Rattle.std.proofs.Common.{arith, sym, ◌∙◌, ap, subst}
+use Rattle.std.specs.Prelude.{◌≡◌, ℕ, ◌+◌, ◌*◌, ◌<◌, Bool, true, List, [], ◌∷◌, length, Some, None, Ok, Option, Result, slice_index, refl}
+use Rattle.std.proofs.Common.{arith, sym, ◌∙◌, ap}
+use Rattle.std.proofs.lemmas.Bool.Decides.{nat_tests}
+use Rattle.std.proofs.lemmas.List.FromFn.{fill_by_all}
 use Rattle.faults.specs.declared.faults.Fault.{Fault}
-use Rattle.records.specs.Reading.{judged, read_as}
+use Rattle.records.specs.Bytes.{four}
+use Rattle.records.specs.Reading.{first_wrong, judged, read_as}
 
--- each is a byte
-abbrev pub Small : List ℕ → Type 0
-Small [] = Unit {0}
-Small (b ∷ bs) = (b < 256) × Small bs
+-- a list of twelve is its elements in a row
+pub in_row : (bs : List ℕ) → length bs ≡ 12
+    → slice_index bs 0 ∷ slice_index bs 1 ∷ slice_index bs 2 ∷ slice_index bs 3 ∷ slice_index bs 4 ∷ slice_index bs 5 ∷ slice_index bs 6 ∷ slice_index bs 7
+    ∷ slice_index bs 8 ∷ slice_index bs 9 ∷ slice_index bs 10 ∷ slice_index bs 11 ∷ [] ≡ bs
+in_row bs long = sym (fill_by_all (slice_index bs) bs 12 0 long (λ k h. refl))
 
-pub small_at : (bs : List ℕ) → Small bs → (i : ℕ) → slice_index bs i < 256
-small_at [] s i = omega arith
-small_at (b ∷ bs) s zero = s.0
-small_at (b ∷ bs) s (suc i) = small_at bs s.1 i
+-- what four bytes make has those bytes
+pub four_of : (a b c d : ℕ) → a < 256 → b < 256 → c < 256 → d < 256 → (rest : List ℕ)
+    → four (a * 16777216 + b * 65536 + c * 256 + d) rest ≡ a ∷ b ∷ c ∷ d ∷ rest
+four_of a b c d ha hb hc hd rest = grind arith
 
--- a list is its elements in a row
-abbrev pub spread : ℕ → (ℕ → ℕ) → List ℕ
-spread zero f = []
-spread (suc n) f = f 0 ∷ spread n (λ i. f (suc i))
-
-spread_is : (bs : List ℕ) → spread (length bs) (λ i. slice_index bs i) ≡ bs
-spread_is [] = refl
-spread_is (b ∷ bs) = ap (λ (t : List ℕ). b ∷ t) (spread_is bs)
-
-pub spread_of : (n : ℕ) (bs : List ℕ) → length bs ≡ n → spread n (λ i. slice_index bs i) ≡ bs
-spread_of n bs e = subst (λ (k : ℕ). spread k (λ i. slice_index bs i) ≡ bs) e (spread_is bs)
+-- where none of four fields is wrong, each is right
+pub each_right : (a b c d : Bool) (i j k l : ℕ) → first_wrong ((a, i) ∷ (b, j) ∷ (c, k) ∷ (d, l) ∷ []) ≡ None
+    → (a ≡ true) × (b ≡ true) × (c ≡ true) × (d ≡ true)
+each_right a b c d i j k l none = grind (arith, nat_tests)
 
 -- bytes that are a record's are read as it
 pub reads_own : {R : Type 0} (bytes : R → List ℕ) (wrong : List ℕ → Option ℕ) (r : R) (bs : List ℕ)
@@ -34,4 +31,4 @@ reads_own bytes wrong r bs long e none = let n : wrong bs ≡ None = ap wrong (s
 -- what was accepted is what was asked for
 pub made_is : {A : Type 0} (o : Option ℕ) (x y : A) → ◌≡◌ {A = Result A Fault} (Ok x) (judged o y) → x ≡ y
 made_is None x y e = cc
-made_is (Some p) x y e = let z : ◌≡◌ {A = ℕ} 0 1 = cc in absurd (omega arith)
+made_is (Some p) x y e = cc

@@ -1,105 +1,78 @@
 ghost use Rattle.std.specs.Prelude.{◌≡◌};
 ghost use Rattle.records.specs.Events.{event_fields, event_of, event_bytes, event_wrong, wrong_party};
+ghost use Rattle.records.specs.Happenings.{happening_code};
 ghost use Rattle.records.specs.Fields.{second_of};
 ghost use Rattle.records.specs.Reading.{judged, shown_as};
 ghost use Rattle.records.specs.EventLaws as laws;
 ghost use Rattle.std.proofs.Common.{rules};
 
 use crate::fields::{Satellite, Second};
+use crate::happenings::Happening;
 use crate::kinds::{RECORD_BYTES, RecordKind};
-use crate::refusals::{no_such_record, wrong_length};
 use faults::Fault;
+use faults::Layer::Record;
+use faults::Reason::{NoSuchRecord, WrongLength};
 
 // What happened to a rack's lock on a satellite. In a holdover the rack runs on its own clock, and no satellite has
 // a part in it.
-#[derive(Clone, Copy)]
+#[derive(Clone, Copy, PartialEq, Eq, Debug)]
 pub enum Event {
     LockLost(Second, Satellite),
     LockGained(Second, Satellite),
     Holdover(Second),
 }
 
-// The code by which a card names event records.
-const CODE: u8 = 2;
-
-// What happened, as byte 4 has it.
-const LOCK_LOST: u8 = 1;
-
-const LOCK_GAINED: u8 = 2;
-
-const HOLDOVER: u8 = 3;
-
-// The event with this code at this second, or the refusal of the code or of the satellite.
-fn happened(second: Second, what: u8, satellite: u32) -> Result<Event, Fault>
-    ensures { shown_as event_fields result ≡ judged (wrong_party what satellite) (second_of second, what, satellite) }
-{
-    if what < LOCK_LOST || what > HOLDOVER {
-        return Err(no_such_record(4));
-    }
-    if what == HOLDOVER {
-        if satellite != 0 {
-            return Err(no_such_record(5));
-        }
-        return Ok(Event::Holdover(second));
-    }
-    let Some(satellite) = Satellite::new(satellite) else {
-        return Err(no_such_record(5));
-    };
-    if what == LOCK_LOST {
-        Ok(Event::LockLost(second, satellite))
-    } else {
-        Ok(Event::LockGained(second, satellite))
-    }
-}
-
-// The same, where the second may be out of its range too.
-fn happened_at(second: u32, what: u8, satellite: u32) -> Result<Event, Fault>
-    ensures { shown_as event_fields result ≡ event_of (second, what, satellite) }
-{
-    let Some(second) = Second::new(second) else {
-        return Err(no_such_record(0));
-    };
-    happened(second, what, satellite)
-}
-
 impl Event {
-    // Each of these makes the record with these fields, or refuses the first that is out of its range.
-    pub fn lock_lost(second: u32, satellite: u32) -> Result<Event, Fault>
-        ensures { shown_as event_fields result ≡ event_of (second, 1, satellite) }
+    // The record of this happening with these fields, or the refusal of the first that is out of its range. A
+    // holdover's satellite is 0.
+    pub fn new(happening: Happening, second: u32, satellite: u32) -> Result<Event, Fault>
+        ensures { shown_as event_fields result ≡ event_of (second, happening_code happening, satellite) }
     {
-        happened_at(second, LOCK_LOST, satellite)
+        let second = Second::new(second).ok_or(Record.fault(NoSuchRecord, 0))?;
+        Event::happened(happening, second, satellite)
     }
 
-    pub fn lock_gained(second: u32, satellite: u32) -> Result<Event, Fault>
-        ensures { shown_as event_fields result ≡ event_of (second, 2, satellite) }
+    // The same where the second is in its range.
+    fn happened(happening: Happening, second: Second, satellite: u32) -> Result<Event, Fault>
+        ensures { shown_as event_fields result ≡ judged (wrong_party (happening_code happening) satellite) (second_of second, happening_code happening, satellite) }
     {
-        happened_at(second, LOCK_GAINED, satellite)
+        let wrong = Record.fault(NoSuchRecord, 5);
+        match happening {
+            Happening::LockLost => Ok(Event::LockLost(
+                second,
+                Satellite::numbered(satellite).ok_or(wrong)?,
+            )),
+            Happening::LockGained => Ok(Event::LockGained(
+                second,
+                Satellite::numbered(satellite).ok_or(wrong)?,
+            )),
+            Happening::Holdover if satellite == 0 => Ok(Event::Holdover(second)),
+            Happening::Holdover => Err(wrong),
+        }
     }
 
-    pub fn holdover(second: u32) -> Result<Event, Fault>
-        ensures { shown_as event_fields result ≡ event_of (second, 3, 0) }
-    {
-        happened_at(second, HOLDOVER, 0)
-    }
-
-    // The second, the code of what happened, and the satellite or 0.
-    fn fields(self) -> (u32, u8, u8)
-        ensures { result ≡ event_fields self }
+    // The second, what happened, and the satellite or 0.
+    fn fields(self) -> (u32, Happening, u8)
+        ensures { (result.0, happening_code result.1, result.2) ≡ event_fields self }
     {
         match self {
-            Event::LockLost(second, satellite) => (second.value(), LOCK_LOST, satellite.value()),
-            Event::LockGained(second, satellite) => (
+            Event::LockLost(second, satellite) => (
                 second.value(),
-                LOCK_GAINED,
+                Happening::LockLost,
                 satellite.value(),
             ),
-            Event::Holdover(second) => (second.value(), HOLDOVER, 0),
+            Event::LockGained(second, satellite) => (
+                second.value(),
+                Happening::LockGained,
+                satellite.value(),
+            ),
+            Event::Holdover(second) => (second.value(), Happening::Holdover, 0),
         }
     }
 }
 
 impl RecordKind for Event {
-    ghost code = { 2 };
+    ghost CODE = { 2 };
 
     ghost bytes = { event_bytes };
 
@@ -115,23 +88,26 @@ impl RecordKind for Event {
 
     ghost met = { λ bs t none. laws.met bs t none };
 
-    fn code() -> u8 {
-        CODE
-    }
+    const CODE: u8 = 2;
 
     fn encode(&self) -> [u8; RECORD_BYTES] {
-        let (second, what, satellite) = self.fields();
+        let (second, happening, satellite) = self.fields();
         let [a, b, c, d] = second.to_be_bytes();
+        let what = u8::from(happening);
         [a, b, c, d, what, satellite, 0, 0, 0, 0, 0, 0]
     }
 
     fn decode(from: &[u8]) -> Result<Event, Fault> {
         let [a, b, c, d, what, satellite, u, v, w, x, y, z] = *from else {
-            return Err(wrong_length(from.len()));
+            return Err(Record.fault(WrongLength, from.len() as u64));
         };
-        let event = happened_at(u32::from_be_bytes([a, b, c, d]), what, satellite as u32)?;
-        if u as u32 + v as u32 + w as u32 + x as u32 + y as u32 + z as u32 != 0 {
-            return Err(no_such_record(6));
+        let second = Second::new(u32::from_be_bytes([a, b, c, d])).ok_or(Record.fault(
+            NoSuchRecord,
+            0,
+        ))?;
+        let event = Event::happened(Happening::try_from(what)?, second, u32::from(satellite))?;
+        if [u, v, w, x, y, z] != [0; 6] {
+            return Err(Record.fault(NoSuchRecord, 6));
         }
         Ok(event)
     }

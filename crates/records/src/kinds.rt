@@ -10,16 +10,15 @@ pub const RECORD_BYTES: usize = 12;
 // A kind of record. Whatever stores records knows their kind by this trait alone.
 pub trait RecordKind: Copy + Drop {
     // The code by which a card names the kind.
-    ghost code: { ℕ };
+    ghost CODE: { ℕ };
+
+    const CODE: u8;
 
     // A record's bytes.
     ghost bytes: { Self → List ℕ };
 
     // Of twelve bytes, the first of the first wrong field; none if they are a record's.
     ghost wrong: { List ℕ → Option ℕ };
-
-    fn code() -> u8
-        ensures { result ≡ code };
 
     fn encode(&self) -> [u8; RECORD_BYTES]
         ensures { result ≡ bytes self.now };
@@ -28,7 +27,7 @@ pub trait RecordKind: Copy + Drop {
     fn decode(from: &[u8]) -> Result<Self, Fault>
         ensures { shown_as bytes result ≡ read_as wrong from.now };
 
-    ghost coded: { (0 < code) × (code < 256) };
+    ghost coded: { (0 < CODE) × (CODE < 256) };
 
     ghost twelve: { (r : Self) → Twelve (bytes r) };
 

@@ -3,11 +3,13 @@
 
 mod events;
 mod fields;
+mod happenings;
 mod kinds;
 mod offsets;
-mod refusals;
+mod wholes;
 
 pub use events::Event;
 pub use fields::{Nanoseconds, Satellite, Second};
+pub use happenings::Happening;
 pub use kinds::{RECORD_BYTES, RecordKind, reread};
 pub use offsets::Offset;

@@ -6,14 +6,12 @@ ghost use Rattle.std.proofs.Common.{rules};
 
 use crate::fields::{Nanoseconds, Satellite, Second};
 use crate::kinds::{RECORD_BYTES, RecordKind};
-use crate::refusals::{no_such_record, wrong_length};
 use faults::Fault;
-
-// The code by which a card names offset records.
-const CODE: u8 = 1;
+use faults::Layer::Record;
+use faults::Reason::{NoSuchRecord, WrongLength};
 
 // How far a rack's clock was off a satellite's, at a second of the week.
-#[derive(Clone, Copy)]
+#[derive(Clone, Copy, PartialEq, Eq, Debug)]
 pub struct Offset {
     pub second: Second,
     pub satellite: Satellite,
@@ -25,15 +23,9 @@ impl Offset {
     pub fn new(second: u32, satellite: u32, nanoseconds: i32) -> Result<Offset, Fault>
         ensures { shown_as offset_fields result ≡ offset_of (second, satellite, nanoseconds) }
     {
-        let Some(second) = Second::new(second) else {
-            return Err(no_such_record(0));
-        };
-        let Some(satellite) = Satellite::new(satellite) else {
-            return Err(no_such_record(4));
-        };
-        let Some(nanoseconds) = Nanoseconds::new(nanoseconds) else {
-            return Err(no_such_record(8));
-        };
+        let second = Second::new(second).ok_or(Record.fault(NoSuchRecord, 0))?;
+        let satellite = Satellite::numbered(satellite).ok_or(Record.fault(NoSuchRecord, 4))?;
+        let nanoseconds = Nanoseconds::new(nanoseconds).ok_or(Record.fault(NoSuchRecord, 8))?;
         Ok(Offset {
             second,
             satellite,
@@ -43,7 +35,7 @@ impl Offset {
 }
 
 impl RecordKind for Offset {
-    ghost code = { 1 };
+    ghost CODE = { 1 };
 
     ghost bytes = { offset_bytes };
 
@@ -59,9 +51,7 @@ impl RecordKind for Offset {
 
     ghost met = { λ bs t none. laws.met bs t none };
 
-    fn code() -> u8 {
-        CODE
-    }
+    const CODE: u8 = 1;
 
     fn encode(&self) -> [u8; RECORD_BYTES] {
         let [a, b, c, d] = self.second.value().to_be_bytes();
@@ -70,21 +60,22 @@ impl RecordKind for Offset {
     }
 
     fn decode(from: &[u8]) -> Result<Offset, Fault> {
+        // Not by `new`: the zeros are looked at between the satellite and the nanoseconds, in the order of the bytes.
         let [a, b, c, d, satellite, x, y, z, e, f, g, h] = *from else {
-            return Err(wrong_length(from.len()));
+            return Err(Record.fault(WrongLength, from.len() as u64));
         };
-        let Some(second) = Second::new(u32::from_be_bytes([a, b, c, d])) else {
-            return Err(no_such_record(0));
-        };
-        let Some(satellite) = Satellite::new(satellite as u32) else {
-            return Err(no_such_record(4));
-        };
-        if x as u32 + y as u32 + z as u32 != 0 {
-            return Err(no_such_record(5));
+        let second = Second::new(u32::from_be_bytes([a, b, c, d])).ok_or(Record.fault(
+            NoSuchRecord,
+            0,
+        ))?;
+        let satellite = Satellite::new(satellite).ok_or(Record.fault(NoSuchRecord, 4))?;
+        if [x, y, z] != [0; 3] {
+            return Err(Record.fault(NoSuchRecord, 5));
         }
-        let Some(nanoseconds) = Nanoseconds::new(i32::from_be_bytes([e, f, g, h])) else {
-            return Err(no_such_record(8));
-        };
+        let nanoseconds = Nanoseconds::new(i32::from_be_bytes([e, f, g, h])).ok_or(Record.fault(
+            NoSuchRecord,
+            8,
+        ))?;
         Ok(Offset {
             second,
             satellite,

@@ -1,6 +1,8 @@
 -- One more record in the rows of a reservoir. Assumes nothing.
-use Rattle.std.proofs.Common.{◌≡◌, ℕ, ◌+◌, ◌<◌, ◌≤◌, Bool, true, false, cond, eqb, ◌≢◌, List, [], ◌∷◌, ◌++◌, length, get_or, set, Some, None, Ok, Option, Result, sym, refl, ap, ◌∙◌, arith, length-append, get_or-set_other, get_or-set_same}
-use Rattle.std.proofs.lemmas.Bool.{eqb-true, eq-eqb, true≢false, lt-ltb}
+use Rattle.std.proofs.Common.{◌≡◌, ℕ, ◌+◌, ◌<◌, ◌≤◌, true, cond, eqb, List, [], ◌∷◌, ◌++◌, length, get_or, set, Some, None, Ok, Option, Result, sym, refl, ap, ◌∙◌, arith, length-append}
+use Rattle.std.proofs.lemmas.Bool.{lt-ltb}
+use Rattle.std.proofs.lemmas.Bool.Decides.{nat_tests}
+use Rattle.std.proofs.lemmas.Grind.{common_steps}
 use Rattle.faults.specs.declared.faults.Fault.{Fault}
 use Rattle.sampling.specs.Answers.{has_room, counted, insert_answer}
 use Rattle.sampling.specs.Draws.{slot_of}
@@ -9,16 +11,14 @@ use Rattle.sampling.proofs.SampleLaws.{sample_one_more}
 use Rattle.reservoir.specs.Keeps.{Rows, Keeps, placed}
 use Rattle.reservoir.specs.declared.reservoirs.Reservoir.{Reservoir}
 
-set_at : {K : Type 0} (rows : List (Option K)) (s i : ℕ) (x : K) (b : Bool) → eqb s i ≡ b → i < length rows
-    → get_or (set rows s (Some x)) i None ≡ cond b (Some x) (get_or rows i None)
-set_at rows s i x true e h = let same : s ≡ i = eqb-true s i e in rw same (get_or-set_same rows i (Some x) None h)
-set_at rows s i x false e h =
-    let ne : i ≢ s = λ q. true≢false (sym (eq-eqb s i (sym q)) ∙ e) in get_or-set_other rows s i (Some x) None ne
+set_at : {K : Type 0} (rows : List (Option K)) (s i : ℕ) (x : K) → i < length rows
+    → get_or (set rows s (Some x)) i None ≡ cond (eqb s i) (Some x) (get_or rows i None)
+set_at rows s i x h = grind (arith, common_steps, nat_tests)
 
 placed_at : {K : Type 0} (rows : List (Option K)) (o : Option ℕ) (i : ℕ) (x : K) → i < length rows
     → get_or (placed rows o x) i None ≡ cond (is_slot o i) (Some x) (get_or rows i None)
 placed_at rows None i x h = refl
-placed_at rows (Some s) i x h = set_at rows s i x (eqb s i) refl h
+placed_at rows (Some s) i x h = set_at rows s i x h
 
 -- the rows of the sample of one more record
 rows_one_more : {K : Type 0} (seed size : ℕ) (rs : List K) (x : K) (rows : List (Option K)) → size ≤ length rows → Rows seed size rs rows

@@ -17,6 +17,10 @@ pub record Keeps {K : Type 0} (seed size : ℕ) (rs : List K) (r : Reservoir K) 
   pub count_is : r.count ≡ length rs
   pub rows_are : Rows seed size rs r.rows
 
+-- what is so of whatever a reservoir keeps: of the seed, the size and the records
+abbrev pub OfKept : {K : Type 0} → Reservoir K → (ℕ → ℕ → List K → Type 0) → Type 0
+OfKept {K} r Fact = (seed size : ℕ) (rs : List K) → Keeps seed size rs r → Fact seed size rs
+
 -- a new one keeps the sample of no records, and is refused a size out of limits
 abbrev pub Made : {K : Type 0} → ℕ → ℕ → Result (Reservoir K) Fault → Type 0
 Made seed size r = cond (is_size size) (MatchResult r (λ s. Keeps seed size [] s) (λ _. ⊥)) (MatchResult r (λ _. ⊥) (λ f. f ≡ refusal OutOfLimits size))

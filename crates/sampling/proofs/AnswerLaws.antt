@@ -13,7 +13,7 @@ unfilled : {R : Type 0} (seed size : ℕ) (rs : List R) (i : ℕ) → sample_at 
 unfilled seed size rs i e =
     ⊎_elim
     (λ (h : i < min (length rs) size).
-    let some = sample_filled seed size rs i h in let is = some.1 in let z : ◌≡◌ {A = ℕ} 0 1 = cc in absurd (omega arith))
+    let some = sample_filled seed size rs i h in let is = some.1 in cc)
     (λ h. h) (cases_lt i (min (length rs) size))
 
 past : (i size n : ℕ) → ltb i size ≡ false → min n size ≤ i

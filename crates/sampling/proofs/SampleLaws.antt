@@ -2,12 +2,14 @@
 use Rattle.std.proofs.Common.{◌≡◌, ℕ, zero, suc, ◌+◌, ◌<◌, ◌≤◌, min, Bool, true, false, cond, List, [], ◌∷◌, ◌++◌, length, Some, None, Option, sym, refl, ap, ◌∙◌, ⊎_elim, add-one, arith, length-append}
 use Rattle.std.proofs.lemmas.Bool.{eqb-true, eq-eqb, true≢false, cases_lt}
 use Rattle.std.specs.List.{slice_get}
+use Rattle.std.proofs.lemmas.Grind.{common_steps}
+use Rattle.std.proofs.lemmas.Option.{gets, slice_get_cases}
 use Rattle.sampling.specs.Draws.{slot_of}
 use Rattle.sampling.specs.Samples.{numbered, Newest, Holds, is_slot, newest, numbered_by, sample_at, SampleLaw}
 use Rattle.sampling.proofs.SlotLaws.{slot_early, slot_below, slot_counted}
 
 is_slot_true : (o : Option ℕ) (i : ℕ) → is_slot o i ≡ true → o ≡ Some i
-is_slot_true None i e = let z : ◌≡◌ {A = ℕ} 0 1 = cc in absurd (omega arith)
+is_slot_true None i e = cc
 is_slot_true (Some s) i e = ap {B = Option ℕ} Some (eqb-true s i e)
 
 is_slot_of : (o : Option ℕ) (i : ℕ) → o ≡ Some i → is_slot o i ≡ true
@@ -40,7 +42,7 @@ newest_rule_more seed size i n k false e h before =
     }
 
 pub newest_rule : (seed size i n k : ℕ) → newest seed size i n ≡ Some k → Newest seed size n i k
-newest_rule seed size i zero k e = let n = newest_none seed size i in let z : ◌≡◌ {A = ℕ} 0 1 = cc in absurd (omega arith)
+newest_rule seed size i zero k e = let n = newest_none seed size i in cc
 newest_rule seed size i (suc n) k e =
     newest_rule_more seed size i n k _ refl (sym (newest_more seed size i n) ∙ e) (newest_rule seed size i n k)
 
@@ -65,7 +67,7 @@ rule_newest seed size i (suc n) k h =
 -- the sample
 holds_by : {R : Type 0} (seed size : ℕ) (rs : List R) (i : ℕ) (r : R) (o : Option ℕ) → newest seed size i (length rs) ≡ o
     → numbered_by rs o ≡ Some r → Holds seed size rs i r
-holds_by seed size rs i r None e h = let z : ◌≡◌ {A = ℕ} 0 1 = cc in absurd (omega arith)
+holds_by seed size rs i r None e h = cc
 holds_by seed size rs i r (Some k) e h = record { number = k; newest_is = newest_rule seed size i (length rs) k e; record_is = h }
 
 pub sample_holds : {R : Type 0} (seed size : ℕ) (rs : List R) (i : ℕ) (r : R) → sample_at seed size rs i ≡ Some r → Holds seed size rs i r
@@ -88,14 +90,10 @@ some_newest seed size i zero h below = absurd (omega arith)
 some_newest seed size i (suc n) h below =
     rw newest_more (some_newest_more seed size i n _ refl h below (λ l. some_newest seed size i n l below))
 
-nth_some : {R : Type 0} (rs : List R) (k : ℕ) → k < length rs → (r : R) × (slice_get rs k ≡ Some r)
-nth_some [] k h = absurd (omega arith)
-nth_some (x ∷ rs) zero h = (x, refl)
-nth_some (x ∷ rs) (suc k) h = nth_some rs k (omega arith)
-
 numbered_some : {R : Type 0} (rs : List R) (k : ℕ) → 0 < k → k ≤ length rs → (r : R) × (numbered rs k ≡ Some r)
 numbered_some rs zero h l = absurd (omega arith)
-numbered_some rs (suc k) h l = nth_some rs k l
+numbered_some rs (suc k) h l =
+    ⊎_elim (λ i. (i.0, i.2)) (λ (past : (length rs ≤ k) × (slice_get rs k ≡ None)). absurd (omega (arith, past.0))) (slice_get_cases rs k).1
 
 pub sample_filled : {R : Type 0} (seed size : ℕ) (rs : List R) (i : ℕ) → i < min (length rs) size → (r : R) × (sample_at seed size rs i ≡ Some r)
 sample_filled seed size rs i h =
@@ -119,13 +117,10 @@ sample_unfilled seed size rs i h = none_by seed size rs i _ refl h
 
 -- one more record
 nth_more : {R : Type 0} (rs ys : List R) (k : ℕ) → k < length rs → slice_get (rs ++ ys) k ≡ slice_get rs k
-nth_more [] ys k h = absurd (omega arith)
-nth_more (x ∷ rs) ys zero h = refl
-nth_more (x ∷ rs) ys (suc k) h = nth_more rs ys k (omega arith)
+nth_more rs ys k h = grind (arith, common_steps, gets)
 
 nth_last : {R : Type 0} (rs : List R) (r : R) → slice_get (rs ++ r ∷ []) (length rs) ≡ Some r
-nth_last [] r = refl
-nth_last (x ∷ rs) r = nth_last rs r
+nth_last rs r = grind (arith, common_steps, gets)
 
 numbered_by_more : {R : Type 0} (rs ys : List R) (o : Option ℕ) → ((k : ℕ) → o ≡ Some k → k ≤ length rs) → numbered_by (rs ++ ys) o ≡ numbered_by rs o
 numbered_by_more rs ys None h = refl

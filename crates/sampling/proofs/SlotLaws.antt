@@ -4,9 +4,10 @@ use Rattle.std.proofs.lemmas.Bool.{lt-ltb}
 use Rattle.std.proofs.lemmas.Bool.Decides.{nat_tests}
 use Rattle.sampling.specs.Draws.{draw_of, slot_by, slot_of, within}
 
-pub slot_zero : (seed size : ℕ) → slot_of seed size 0 ≡ None
+-- no record has the number 0
+pub slot_none : (seed size k : ℕ) → k ≡ 0 → slot_of seed size k ≡ None
 unfolding slot_of
-slot_zero seed size = refl
+slot_none seed size k e = rw e refl
 
 pub slot_suc : (seed size j : ℕ) → slot_of seed size (suc j) ≡ cond (ltb j size) (Some j) (within size (draw_of seed (suc j) % suc j))
 unfolding slot_of
@@ -26,16 +27,13 @@ below size j r i e = grind (arith, nat_tests)
 
 -- a record's slot is one of the sample's
 pub slot_below : (seed size k i : ℕ) → slot_of seed size k ≡ Some i → i < size
-slot_below seed size zero i e = let n = slot_zero seed size in let z : ◌≡◌ {A = ℕ} 0 1 = cc in absurd (omega arith)
+slot_below seed size zero i e = cc (slot_none seed size 0 refl)
 slot_below seed size (suc j) i e = below size j _ i (sym (slot_suc seed size j) ∙ e)
 
 counted : (size j r i : ℕ) → r ≤ j → cond (ltb j size) (Some j) (within size r) ≡ Some i → i < suc j
 counted size j r i h e = grind (arith, nat_tests)
 
-remainder_le : (n j : ℕ) → n % suc j ≤ j
-remainder_le n j = omega arith
-
 -- and is below the record's number
 pub slot_counted : (seed size k i : ℕ) → slot_of seed size k ≡ Some i → i < k
-slot_counted seed size zero i e = let n = slot_zero seed size in let z : ◌≡◌ {A = ℕ} 0 1 = cc in absurd (omega arith)
-slot_counted seed size (suc j) i e = counted size j _ i (remainder_le (draw_of seed (suc j)) j) (sym (slot_suc seed size j) ∙ e)
+slot_counted seed size zero i e = cc (slot_none seed size 0 refl)
+slot_counted seed size (suc j) i e = counted size j _ i (omega arith) (sym (slot_suc seed size j) ∙ e)

@@ -1,6 +1,7 @@
 -- What a sample answers, by the records counted so far, and which of its calls are refused. Assumes nothing.
 use Rattle.std.specs.Prelude.{ℕ, ◌+◌, Bool, cond, ◌&&◌, List, [], ◌∷◌, ◌++◌, length, Ok, Err, Option, Result, nat_le, nat_lt}
 use Rattle.std.specs.Option.{ok_or}
+use Rattle.faults.specs.Refusals.{fault}
 use Rattle.faults.specs.declared.faults.Fault.{Fault}
 use Rattle.faults.specs.declared.faults.Layer.TheVariants.{Sampler}
 use Rattle.faults.specs.declared.faults.Reason.{Reason}
@@ -10,7 +11,7 @@ use Rattle.sampling.specs.Samples.{sample_at}
 
 -- a refusal of the sampler's layer
 abbrev pub refusal : Reason → ℕ → Fault
-refusal why place = record { reason = why; layer = Sampler; place = place }
+refusal why place = fault why Sampler place
 
 -- a sample has 1 to 672 slots
 abbrev pub is_size : ℕ → Bool

@@ -2,7 +2,7 @@
 #![tactic(auto)]
 
 ghost use Rattle.std.specs.Prelude.{◌≡◌, ◌<◌, IfSome};
-ghost use Rattle.sampling.specs.Draws.{split_mix, draw_of, slot_by, slot_of};
+ghost use Rattle.sampling.specs.Draws.{draw_of, slot_of, within};
 
 // SplitMix64's increment and multipliers.
 const GAMMA: u64 = 0x9E37_79B9_7F4A_7C15;
@@ -11,9 +11,11 @@ const FIRST_FACTOR: u64 = 0xBF58_476D_1CE4_E5B9;
 
 const SECOND_FACTOR: u64 = 0x94D0_49BB_1331_11EB;
 
-// SplitMix64, from the number of the output and not from the one before it.
-fn split_mix(seed: u64, k: u64) -> u64
-    ensures { result ≡ split_mix seed k }
+// Draw k of a seed: SplitMix64, from the number of the output and not from the one before it, so that no draw has to be
+// made before another.
+#[tactic(auto, unfolding(crate::specs::Draws::draw_of))]
+pub fn draw(seed: u64, k: u64) -> u64
+    ensures { result ≡ draw_of seed k }
 {
     let a = seed.wrapping_add(k.wrapping_mul(GAMMA));
     let b = (a ^ (a >> 30)).wrapping_mul(FIRST_FACTOR);
@@ -21,37 +23,22 @@ fn split_mix(seed: u64, k: u64) -> u64
     c ^ (c >> 31)
 }
 
-// Draw k of a seed. Each is worked out from its number, so none has to be drawn before another.
-pub fn draw(seed: u64, k: u64) -> u64
-    ensures { result ≡ draw_of seed k }
+// A slot, if a sample of this size has it.
+fn within(size: u16, slot: u64) -> Option<u16>
+    ensures { result ≡ within size slot }
 {
-    split_mix(seed, k)
-}
-
-// The slot of a record by its number, from 1, and its draw.
-fn slot_by(size: u16, k: u32, draw: u64) -> Option<u16>
-    requires { 0 < k }
-    ensures value { result ≡ slot_by size k draw }
-    ensures bound { IfSome result (λ i. i < size) }
-{
-    if k <= size as u32 {
-        return Some((k - 1) as u16);
-    }
-    let remainder = draw % k as u64;
-    if remainder < size as u64 {
-        Some(remainder as u16)
-    } else {
-        None
-    }
+    u16::try_from(slot).ok().filter(|slot| *slot < size)
 }
 
 // The slot of record k in a sample of this size, if it has one. Records are numbered from 1.
+#[tactic(auto, using(crate::proofs::SlotLaws::slot_none, crate::proofs::SlotLaws::slot_from_one))]
 pub fn slot_of(seed: u64, size: u16, k: u32) -> Option<u16>
     ensures value { result ≡ slot_of seed size k }
     ensures bound { IfSome result (λ i. i < size) }
 {
-    if k == 0 {
-        return None;
+    let earlier = k.checked_sub(1)?;
+    if earlier < u32::from(size) {
+        return Some(earlier as u16);
     }
-    slot_by(size, k, draw(seed, k as u64))
+    within(size, draw(seed, u64::from(k)) % u64::from(k))
 }

@@ -1,9 +1,6 @@
-ghost use Rattle.std.specs.Prelude.{◌≡◌};
-ghost use Rattle.scenarios.specs.declared.answers.Stopped.TheVariants.{Memory, Refused as RefusedStart};
-
+use failures::Failure;
 use faults::Fault;
 use records::Offset;
-use std::alloc::{AllocError, AllocFailed};
 
 // A filled slot and the record in it.
 #[derive(Clone, Copy)]
@@ -21,7 +18,7 @@ pub struct Report {
     pub sum: i64,
 }
 
-// What a command is answered.
+// What a command that was not refused is answered.
 #[derive(Drop)]
 pub enum Answer {
     // The slot that the record took, if any.
@@ -29,36 +26,7 @@ pub enum Answer {
     // The record in the slot.
     Found(Offset),
     Told(Report),
-    Refused(Fault),
 }
 
 // Why a scenario was not worked to its end: its reservoir was refused, or memory ran out.
-#[derive(Drop)]
-pub enum Stopped {
-    Refused(Fault),
-    Memory,
-}
-
-impl From<Fault> for Stopped {
-    ghost from_gives = { λ f r. r ≡ RefusedStart f };
-
-    fn from(fault: Fault) -> Stopped {
-        Stopped::Refused(fault)
-    }
-}
-
-impl From<AllocError> for Stopped {
-    ghost from_gives = { λ _ r. r ≡ Memory };
-
-    fn from(_e: AllocError) -> Stopped {
-        Stopped::Memory
-    }
-}
-
-impl<T: Drop> From<AllocFailed<T>> for Stopped {
-    ghost from_gives = { λ _ r. r ≡ Memory };
-
-    fn from(_e: AllocFailed<T>) -> Stopped {
-        Stopped::Memory
-    }
-}
+pub type Stopped = Failure<Fault>;

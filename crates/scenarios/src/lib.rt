@@ -3,6 +3,7 @@
 
 mod answers;
 mod reports;
+mod sessions;
 mod working;
 
 pub use answers::{Answer, Report, Row, Stopped};

@@ -1,51 +1,47 @@
-ghost use Rattle.std.specs.Prelude.{◌≡◌, ℕ, ◌≤◌, List, map, length, IfOk, vec_len};
-ghost use Rattle.records.specs.Offsets.{Fields};
+ghost use Rattle.std.specs.Prelude.{◌≡◌, ◌≤◌, map, length, IfOk, Ok, vec_len};
 ghost use Rattle.script.specs.declared.commands.Command.TheVariants.{Report as Asked};
-ghost use Rattle.scenarios.specs.Replies.{reply_to, sample_rows, sum_of};
-ghost use Rattle.scenarios.specs.Worked.{KeepsFields, row_of, said};
+ghost use Rattle.scenarios.specs.Replies.{sample_rows, sum_of};
+ghost use Rattle.scenarios.specs.Worked.{Replied, OfFields, row_of, said};
 ghost use Rattle.scenarios.specs.declared.answers.Answer.TheVariants.{Told};
 
 use crate::answers::{Report, Row};
-use records::Offset;
-use reservoir::Reservoir;
-use std::alloc::{AllocError, Global};
-
-// The filled slots, ascending.
-fn rows(heap: Global, sample: &Reservoir<Offset>) -> Result<Vec<Row>, AllocError>
-    ensures value { (seed size : ℕ) (xs : List Fields) → KeepsFields seed size xs sample.now → IfOk result (λ v. map row_of v.items ≡ sample_rows seed size xs) }
-    ensures bound { IfOk result (λ v. vec_len v ≤ 672) }
-{
-    let mut rows = Vec::new(heap);
-    for i in 0..sample.size() { // i up to size - 1
-        match sample.slot(i) {
-            Ok(offset) => rows.push(Row { slot: i, offset })?,
-            Err(_empty) => {}
-        }
-    }
-    Ok(rows)
-}
+use crate::sessions::Session;
+use std::alloc::AllocError;
 
 // The exact sum of the nanoseconds; 672 of them cannot overflow it.
 fn sum(rows: &[Row]) -> i64
     requires { length rows.now ≤ 672 }
     ensures { result ≡ sum_of (map row_of rows.now) }
 {
-    let mut sum = 0i64;
-    for row in rows {
-        sum += row.offset.nanoseconds.value() as i64;
-    }
-    sum
+    rows.iter()
+        .map(|row| i64::from(row.offset.nanoseconds.value()))
+        .sum()
 }
 
-// The sample as it stands.
-pub(crate) fn report(heap: Global, sample: &Reservoir<Offset>) -> Result<Report, AllocError>
-    ensures { (seed size : ℕ) (xs : List Fields) → KeepsFields seed size xs sample.now → IfOk result (λ t. said (Told t) ≡ reply_to seed size xs Asked) }
-{
-    let rows = rows(heap, sample)?;
-    let sum = sum(rows.as_slice());
-    Ok(Report {
-        count: sample.count(),
-        rows,
-        sum,
-    })
+impl Session {
+    // The filled slots, ascending.
+    fn rows(&self) -> Result<Vec<Row>, AllocError>
+        ensures value { OfFields self.now.sample (λ seed size xs. IfOk result (λ v. map row_of v.items ≡ sample_rows seed size xs)) }
+        ensures bound { IfOk result (λ v. vec_len v ≤ 672) }
+    {
+        (0..self.sample.size()) // slot up to size - 1
+            .filter_map(|slot| {
+                let offset = self.sample.slot(slot).ok()?;
+                Some(Row { slot, offset })
+            })
+            .collect(self.heap)
+    }
+
+    // The sample as it stands.
+    pub(crate) fn report(&self) -> Result<Report, AllocError>
+        ensures { IfOk result (λ t. Replied Asked self.now.sample self.now.sample (said (Ok (Told t)))) }
+    {
+        let rows = self.rows()?;
+        let sum = sum(rows.as_slice());
+        Ok(Report {
+            count: self.sample.count(),
+            rows,
+            sum,
+        })
+    }
 }

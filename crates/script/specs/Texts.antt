@@ -3,8 +3,6 @@ use Rattle.std.specs.Prelude.{ℕ, List, ◌++◌, codes, decimal}
 use Rattle.script.specs.declared.expectations.BadLine.{BadLine}
 use Rattle.script.specs.declared.expectations.Expected.{Expected}
 use Rattle.script.specs.declared.expectations.Expected.TheVariants.{CommandName, ReservoirFirst, ReservoirWords, InsertWords, SlotWords, ReportWords, Size, Seed, Second, Satellite, Offset, Slot}
-use Rattle.script.specs.declared.expectations.Unread.{Unread}
-use Rattle.script.specs.declared.expectations.Unread.TheVariants.{Bad, Memory}
 
 -- what a line should have had
 abbrev pub expected_text : Expected → List ℕ
@@ -24,8 +22,3 @@ expected_text Slot = codes "expected I from 0 to 65535"
 -- the line's number in front of it
 abbrev pub bad_line_text : BadLine → List ℕ
 bad_line_text bad = codes "line " ++ (decimal bad.line ++ (codes ": " ++ expected_text bad.expected))
-
--- why a script was not read
-abbrev pub unread_text : Unread → List ℕ
-unread_text (Bad bad) = bad_line_text bad
-unread_text Memory = codes "out of memory"

@@ -1,6 +1,6 @@
 // What a scenario asks of its reservoir. An insert has the numbers that the script has, in range or not: a record
 // that cannot exist is refused when the command is worked, and the script is none the worse for it.
-#[derive(Clone, Copy)]
+#[derive(Clone, Copy, Debug, PartialEq, Eq)]
 pub enum Command {
     Insert {
         second: u32,

@@ -26,6 +26,10 @@ pub record Lawful (unit limit : ℕ) (m : Meaning) : Type 0 where
 abbrev pub Sound : Meaning → Type 0
 Sound m = (b : ℕ) → b < m.size → m.stands b torn → ⊥
 
+-- what a call leaves of soundness: a steady store stays sound once it is
+abbrev pub Steadily : Bool → Meaning → Meaning → Type 0
+Steadily steady m n = steady ≡ true → Sound m → Sound n
+
 -- at each block what is read may stand, and nothing else
 pub record Settled (m : Meaning) : Type 0 where
   pub holds : (b : ℕ) → b < m.size → m.stands b (m.reads b)

@@ -2,15 +2,12 @@
 use Rattle.std.specs.Prelude.{◌≡◌, ℕ, ◌<◌, ◌≤◌, true, false, ◌⊎◌, List, length, Ok, Err, Result, ◌≢◌}
 use Rattle.faults.specs.declared.faults.Fault.{Fault}
 use Rattle.faults.specs.declared.faults.Layer.{Layer}
-use Rattle.faults.specs.declared.faults.Reason.{Reason}
+use Rattle.faults.specs.Refusals.{fault}
 use Rattle.faults.specs.declared.faults.Reason.TheVariants.{NoSuchBlock, WrongLength, Off, Torn}
 use Rattle.stores.specs.Meanings.{Content, whole, torn, Meaning, Settled, Lasting, Same, Cut, Nothing, Written}
 
 abbrev pub Answer : Type 0
 Answer = Result (Unit {0}) Fault
-
-abbrev pub fault : Reason → Layer → ℕ → Fault
-fault why layer place = record { reason = why; layer = layer; place = place }
 
 -- the answer is this refusal, and nothing changed
 abbrev pub Refusal : Meaning → Meaning → Fault → Answer → Type 0

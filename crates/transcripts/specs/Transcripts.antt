@@ -1,26 +1,24 @@
 -- What a script is answered, from its text to the text that is printed. Assumes nothing.
-use Rattle.std.specs.Prelude.{◌≡◌, ℕ, cond, List, [], ◌∷◌, ◌++◌, Ok, Err, string_bytes, codes, Result, String}
+use Rattle.std.specs.Prelude.{ℕ, cond, List, [], ◌++◌, Ok, Err, string_bytes, codes, Result, String}
+use Rattle.std.specs.List.{flat_map, zip}
+use Rattle.failures.specs.Answers.{UnlessMemory}
+use Rattle.failures.specs.declared.Failure.{Failure}
 use Rattle.faults.specs.declared.faults.Fault.{Fault}
 use Rattle.faults.specs.declared.faults.Reason.TheVariants.{OutOfLimits}
 use Rattle.sampling.specs.Answers.{is_size, refusal}
 use Rattle.script.specs.declared.commands.Command.{Command}
 use Rattle.script.specs.declared.expectations.BadLine.{BadLine}
-use Rattle.script.specs.declared.expectations.Unread.{Unread}
-use Rattle.script.specs.declared.expectations.Unread.TheVariants.{Bad, Memory}
 use Rattle.parsing.specs.Scripts.{Plan, read_script}
 use Rattle.scenarios.specs.Replies.{Reply, replies}
 use Rattle.printing.specs.Lines.{name_of, refusal_text, reply_text}
 
--- the lines of commands and their answers
+-- a line for each command with its answer
 abbrev pub answers_text : List Command → List Reply → List ℕ
-answers_text [] rs = []
-answers_text (c ∷ cs) [] = []
-answers_text (c ∷ cs) (r ∷ rs) = (reply_text c r ++ codes "\n") ++ answers_text cs rs
+answers_text commands answers = flat_map (λ p. reply_text p.0 p.1 ++ codes "\n") (zip commands answers)
 
--- the lines of commands whose reservoir was refused
+-- a line for each command, where its reservoir was refused
 abbrev pub skipped_text : List Command → List ℕ
-skipped_text [] = []
-skipped_text (c ∷ cs) = (name_of c ++ codes " skipped\n") ++ skipped_text cs
+skipped_text commands = flat_map (λ c. name_of c ++ codes " skipped\n") commands
 
 -- the line of a reservoir that was refused
 abbrev pub refused_text : Fault → List ℕ
@@ -34,8 +32,7 @@ scenario_text size seed commands =
 
 -- the lines of all scenarios in order
 abbrev pub scenarios_text : List Plan → List ℕ
-scenarios_text [] = []
-scenarios_text (p ∷ ps) = scenario_text p.size p.seed p.commands ++ scenarios_text ps
+scenarios_text plans = flat_map (λ p. scenario_text p.size p.seed p.commands) plans
 
 -- what is printed of a script that was read
 abbrev pub printed : Result (List Plan) BadLine → Result (List ℕ) BadLine
@@ -47,7 +44,5 @@ abbrev pub transcript_of : List ℕ → Result (List ℕ) BadLine
 transcript_of script = printed (read_script script)
 
 -- r is that; a want of memory says nothing of the script
-abbrev pub Transcribed : {Z : Type 0} → List ℕ → Result (String Z) Unread → Type 0
-Transcribed script (Ok out) = transcript_of script ≡ Ok (string_bytes out)
-Transcribed script (Err (Bad bad)) = transcript_of script ≡ Err bad
-Transcribed script (Err Memory) = Unit {0}
+abbrev pub Transcribed : {Z : Type 0} → List ℕ → Result (String Z) (Failure BadLine) → Type 0
+Transcribed script r = UnlessMemory (λ out. string_bytes out) (transcript_of script) r

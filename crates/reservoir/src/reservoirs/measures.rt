@@ -1,5 +1,5 @@
-ghost use Rattle.std.specs.Prelude.{◌≡◌, ℕ, ◌≤◌, List, length};
-ghost use Rattle.reservoir.specs.Keeps.{Keeps};
+ghost use Rattle.std.specs.Prelude.{◌≡◌, ◌≤◌, length};
+ghost use Rattle.reservoir.specs.Keeps.{OfKept};
 
 use crate::reservoirs::Reservoir;
 use records::RecordKind;
@@ -7,14 +7,14 @@ use records::RecordKind;
 impl<K: RecordKind> Reservoir<K> {
     // How many records were counted.
     pub fn count(&self) -> u32
-        ensures { (seed size : ℕ) (rs : List K) → Keeps seed size rs self.now → result ≡ length rs }
+        ensures { OfKept self.now (λ seed size rs. result ≡ length rs) }
     {
         self.count
     }
 
     // How many slots there are, filled or not.
     pub fn size(&self) -> u16
-        ensures value { (seed size : ℕ) (rs : List K) → Keeps seed size rs self.now → result ≡ size }
+        ensures value { OfKept self.now (λ seed size rs. result ≡ size) }
         ensures bound { result ≤ 672 }
     {
         self.size

@@ -1,18 +1,27 @@
-use Rattle.std.proofs.Common.{arith, ltb-false, ltb-true}
-use Rattle.parsing.proofs.Arities.{reservoir_words, reservoir_size, reservoir_seed, reservoir_read}
+use Rattle.std.proofs.Common.{◌≡◌, Some, refl, arith, ltb-false, ltb-true}
+use Rattle.std.proofs.lemmas.Result.{err_from_is_err_and}
+use Rattle.parsing.proofs.Sequences.{reservoir_size, reservoir_seed, missed}
+use Rattle.parsing.proofs.Numbers.{plain_number}
 use Rattle.parsing.proofs.lines.reservoir.Goals as goal
 
-pub returns-in_default : goal.returns-in_default
-returns-in_default c = reservoir_words c.args.words.now (λ n. omega (arith, ltb-true, ltb-false))
+pub returns-in_err-size : goal.returns-in_err-size
+returns-in_err-size c =
+    let p = err_from_is_err_and c.from_residual.result c.from_residual.ensures.1 in
+    let none = missed c.ok_or.ensures.value c.in_err-size.was in
+    let all = reservoir_size c.args.words.now _ c.number.result (omega (arith, ltb-true, ltb-false)) (plain_number 16 0xFFFF refl c.number.ensures) in
+    rw (p.1, p.2, none.1) (rw none.0 at all)
 
-pub returns-in_default-2 : goal.returns-in_default-2
-returns-in_default-2 c = reservoir_words c.args.words.now (λ n. omega (arith, ltb-true, ltb-false))
-
-pub returns-in_default-number : goal.returns-in_default-number
-returns-in_default-number c = reservoir_size c.args.words.now (omega (arith, ltb-true, ltb-false)) _ c.in_default-number.ensures
-
-pub returns-in_default-seed : goal.returns-in_default-seed
-returns-in_default-seed c = reservoir_seed c.args.words.now (omega (arith, ltb-true, ltb-false)) _ _ _ c.in-Some.ensures c.in_default-seed.ensures
+pub returns-in_err-seed : goal.returns-in_err-seed
+returns-in_err-seed c =
+    let p = err_from_is_err_and c.from_residual-in_err-seed.result c.from_residual-in_err-seed.ensures.1 in
+    let some : c.number.result ≡ Some c.in_ok-size.size = grind arith in
+    let none = missed c.ok_or-2.ensures.value c.in_err-seed.was in
+    let all = reservoir_seed c.args.words.now _ _ c.number.result c.seed.result (omega (arith, ltb-true, ltb-false)) (plain_number 16 0xFFFF refl c.number.ensures) c.seed.ensures in
+    rw (p.1, p.2, none.1) (rw (some, none.0) at all)
 
 pub returns : goal.returns
-returns c = reservoir_read c.args.words.now (omega (arith, ltb-true, ltb-false)) _ _ _ _ c.in-Some.ensures c.in-Some-seed.ensures
+returns c =
+    let size : c.number.result ≡ Some c.in_ok-size.size = grind arith in
+    let seed : c.seed.result ≡ Some c.in_ok-seed.seed = grind arith in
+    let all = reservoir_seed c.args.words.now _ _ c.number.result c.seed.result (omega (arith, ltb-true, ltb-false)) (plain_number 16 0xFFFF refl c.number.ensures) c.seed.ensures in
+    rw (size, seed) at all

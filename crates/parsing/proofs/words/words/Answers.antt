@@ -1,8 +1,13 @@
-use Rattle.std.proofs.Common.{vec_items}
-use Rattle.parsing.proofs.Cuts.{words_from_kept}
+use Rattle.std.proofs.Common.{◌∙◌, lit<, rules, not, length, ◌==◌}
+use Rattle.std.proofs.lemmas.Iterator.Consumers.{map_from_collect, YieldsList-from_filter, YieldsList-at}
+use Rattle.std.proofs.lemmas.Iterator.Splits.{YieldsList-from_str_split}
+use Rattle.parsing.specs.Words.{uncommented}
 use Rattle.parsing.proofs.words.words.Goals as goal
 
 pub returns : goal.returns
 returns c =
-    words_from_kept c.args.line.now c.code.result.now (vec_items c.in_ok-parts.parts) c.deref.result.now c.not_empty.result
-    c.deref.ensures.value c.in_ok-parts.ensures c.code.ensures c.not_empty.ensures
+    map_from_collect _ c.collect.ensures.ran
+    (YieldsList-from_filter _ (λ w. not (length w == 0))
+    (YieldsList-at c.filter.ensures.source
+    (YieldsList-from_str_split 32 (uncommented c.args.line.now) (lit< tt) (c.split.ensures.text ∙ c.code.ensures) c.split.ensures.has_more c.split.ensures.pattern))
+    c.filter.ensures.closure (λ x r q k. search rules))

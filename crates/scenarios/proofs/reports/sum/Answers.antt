@@ -1,28 +1,22 @@
-use Rattle.std.proofs.Common.{◌≡◌, ◌+◌, ◌*◌, map, take, ℤ, pos, negsuc, ◌+ℤ◌, ◌≤ℤ◌, sym, ap, ◌∙◌, subst, take_all, w32, w64, SFits, rules}
-use Rattle.scenarios.specs.Replies.{sum_of}
-use Rattle.scenarios.specs.Worked.{row_of}
-use Rattle.scenarios.proofs.Rows.{sum_more, low_more, high_more, cast_sum}
+use Rattle.std.proofs.Common.{◌^◌, ◌+ℤ◌, pos, unsigned_abs, fold, sym, ap, ◌∙◌, arith, rules, tests, w64, SFits}
+use Rattle.std.proofs.lemmas.Int.{to_z-of_z}
+use Rattle.std.proofs.lemmas.Iterator.{YieldsList-from_slice, YieldsList-from_map, YieldsList-from_map_by, items_from_drains}
+use Rattle.std.proofs.lemmas.Iterator.Consumers.{fits_from_yields_list}
+use Rattle.std.proofs.lemmas.List.{map-id}
+use Rattle.scenarios.proofs.Sums.{nanoseconds_in, sum_fits, sizes_small, sum_is}
 use Rattle.scenarios.proofs.reports.sum.Goals as goal
 
-pub loop-row-preserved : goal.loop-row-preserved
-loop-row-preserved c =
-    let s = c.loop-row.sum in
-    let n = c.value.result in
-    let v = c.loop-row.invariant in
-    let i = c.loop-row.row-index in
-    let rows = c.args.rows.now in
-    let x = c.row-item.result in
-    let fit32 : SFits w32 n = search rules in
-    let fit64 : SFits w64 n = search rules in
-    let fits : SFits w64 (s +ℤ n) = search rules in
-    let low : negsuc 499999999 ≤ℤ n = rw c.value.ensures x.offset.nanoseconds.low in
-    let high : n ≤ℤ pos 500000000 = rw c.value.ensures x.offset.nanoseconds.high in
-    let P : ℤ → Type 0 = λ z. (z ≡ sum_of (map row_of (take (i + 1) rows))) × (z ≤ℤ pos (500000000 * (i + 1))) × (pos 0 ≤ℤ (z +ℤ pos (500000000 * (i + 1)))) in
-    rw c.loop-row.sum-is (subst P (sym (cast_sum s n fit32 fit64 fits)) (
-      ap (λ z. z +ℤ n) (sym c.loop-row.sum-is ∙ v.0) ∙ ap (λ z. sum_of (map row_of (take i rows)) +ℤ z) c.value.ensures ∙ sym (sum_more rows i x c.loop-row-test.true c.row-item.is),
-      high_more i s n (rw (← c.loop-row.sum-is) v.1) high,
-      low_more i s n (rw (← c.loop-row.sum-is) v.2) low,
-    ))
+pub sum-requires-clause-fits : goal.sum-requires-clause-fits
+sum-requires-clause-fits c = λ p t at.
+    sum_fits p.items (fits_from_yields_list c.map.result (2 ^ 63)
+    (YieldsList-from_map_by _ unsigned_abs (λ r. unsigned_abs (nanoseconds_in r)) (YieldsList-from_slice c.args.rows.now (cc)) c.map.ensures.closure (λ x r q e. search (rules, tests)))
+    (omega (arith, sizes_small c.args.rows.now)) p t at)
 
 pub returns : goal.returns
-returns c = c.loop-row.invariant.0 ∙ ap (λ rows. sum_of (map row_of rows)) (take_all _ c.args.rows.now c.loop-row-test.false)
+returns c =
+    let rows = c.args.rows.now in
+    let fit : SFits w64 c.sum.result = search rules in
+    let d = c.sum.ensures.ran.1 tt in
+    let terms = items_from_drains c.sum.ensures.ran.0 (d.1.0, d.1.1, λ _. (d.0, d.1.2))
+    (YieldsList-from_map _ nanoseconds_in (YieldsList-from_slice rows (cc)) c.map.ensures.closure (λ x r q e. search rules)) in
+    to_z-of_z w64 c.sum.result fit ∙ c.sum.ensures.ran.2 ∙ ap (fold ◌+ℤ◌ (pos 0)) (sym (map-id c.sum.ensures.ran.0) ∙ terms) ∙ sum_is rows

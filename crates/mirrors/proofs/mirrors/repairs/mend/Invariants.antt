@@ -1,7 +1,10 @@
-use Rattle.mirrors.specs.Repairs.{Halves, Mended}
+use Rattle.std.proofs.Common.{◌≡◌, true}
+use Rattle.stores.specs.Meanings.{Settled}
+use Rattle.mirrors.specs.Mirrors.{half}
+use Rattle.mirrors.specs.Repairs.{Mended}
 use Rattle.mirrors.proofs.mirrors.repairs.mend.Given as goal
 
 abbrev pub invariant-loop-block : goal.invariant-loop-block
 invariant-loop-block g l =
-    (g.S.Store.arises l.initial.below → g.S.Store.arises l.below)
-    × (g.S.Store.arises l.initial.below → Halves (g.S.Store.meaning l.initial.below) l.half → Mended l.half l.block (g.S.Store.meaning l.initial.below) (g.S.Store.meaning l.below))
+    let m = g.S.Store.meaning l.initial.below in
+    (l.half ≡ half m) × (m.on ≡ true → Settled m → Mended l.block m (g.S.Store.meaning l.below))

@@ -1,4 +1,5 @@
-use Rattle.std.proofs.Common.{◌≡◌, true, leb, refl, ◌∙◌, arith}
+use lib.ListN.{get_or-replicate}
+use Rattle.std.proofs.Common.{◌≡◌, true, leb, None, refl, ◌∙◌, arith}
 use Rattle.std.proofs.lemmas.Bool.{le-leb}
 use Rattle.sampling.proofs.SampleLaws.{newest_none}
 use Rattle.reservoir.proofs.reservoirs.Reservoir.new.Goals as goal
@@ -11,5 +12,5 @@ returns g c =
       seed_is = refl;
       size_is = refl;
       count_is = refl;
-      rows_are = λ i h. c.empty.ensures i (omega (arith, h, c.if-size-gt-SLOT_LIMIT.false)) ∙ rw (newest_none c.args.seed c.args.size i) refl;
+      rows_are = λ i h. get_or-replicate 672 i None None (omega (arith, h, c.if-size-gt-SLOT_LIMIT.false)) ∙ rw (newest_none c.args.seed c.args.size i) refl;
     })

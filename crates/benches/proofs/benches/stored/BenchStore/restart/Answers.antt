@@ -1,32 +1,23 @@
-use Rattle.std.proofs.Common.{◌≡◌, ℕ, List, length, drop, vec_items, sym, ap, ◌∙◌, subst, arith}
-use Rattle.std.proofs.lemmas.List.{with_items_is}
-use Rattle.benches.specs.declared.supply.Supply.{Supply}
-use Rattle.benches.specs.Held.{Inside}
-use Rattle.benches.specs.Passes.{Pass, passed}
-use Rattle.benches.proofs.Fates.{Fated, fated}
-use Rattle.benches.specs.Benches.{view_of}
-use Rattle.benches.proofs.Views.{awoken_is}
-use Rattle.benches.proofs.Outcomes.{restarted, started_on, started_lasts}
+use Rattle.std.proofs.Common.{◌≡◌, length, ap, arith}
+use Rattle.std.proofs.lemmas.Grind.{common_steps}
+use Rattle.benches.specs.Held.{blocks_in}
+use Rattle.benches.specs.Passes.{Pass}
+use Rattle.benches.proofs.Fates.{restarted}
+use Rattle.benches.proofs.Outcomes.{restart_outcome}
 use Rattle.benches.proofs.benches.stored.BenchStore.restart.Goals as goal
 
-pub returns : goal.returns
-returns c =
+pub returns-clause-outcome : goal.returns-clause-outcome
+returns-clause-outcome c =
     let old = c.args.self.now in
-    let mem = c.pass.new.mem in
-    let p : Pass = record { mem = vec_items old.bytes; left = drop old.at (vec_items old.choices) } in
-    let len : length mem ≡ old.bytes.len = c.pass.auto.mem ∙ c.deref_mut.ensures.len in
-    let inside : Inside (length (vec_items old.bytes)) (vec_items old.held) =
-    λ i l. (omega (arith, (old.inside i l).0, old.bytes.ok.0), (old.inside i l).1) in
-    let went : ◌≡◌ {A = Pass} (record { mem = mem; left = drop c.pass.new.at (vec_items old.choices) }) (passed (vec_items old.held) p old.blocks) = cc in
-    let is = with_items_is old.bytes mem len ∙ ap (λ (q : Pass). q.mem) went in
-    let F : List ℕ → Type 0 = λ m. Fated (vec_items old.bytes) m (vec_items old.held) old.blocks in
-    let f = subst F (sym is) (fated (vec_items old.held) p old.blocks old.blocks inside (omega (arith, old.fits, old.bytes.ok.0)) (omega arith)) in
-    record {
-      outcome = λ _.
-          restarted old.blocks old.supply.on c.start.new.self.on old.supply.lasts c.start.new.self.lasts (vec_items old.bytes) _ (vec_items old.held) (vec_items c.clear.new.self)
-          f c.clear.ensures.items
-          (ap (λ (s : Supply). s.on) c.start.ensures ∙ started_on old.supply)
-          (λ l. ap (λ (s : Supply). s.lasts) c.start.ensures ∙ started_lasts old.supply l);
-      state = λ u. u;
-      after = awoken_is (view_of old) _ (vec_items c.clear.new.self) c.start.new.self (drop c.pass.new.at (vec_items old.choices)) is c.clear.ensures.items c.start.ensures (ap (λ (q : Pass). q.left) went);
-    }
+    let p : Pass = record { mem = old.disk.bytes.items; left = old.choices.items } in
+    let q : Pass = record { mem = c.restart.new.self.bytes.items; left = c.restart.new.choices.items } in
+    restart_outcome old.supply.power c.start.new.self.power old.supply.fuses.items p.mem q.mem old.disk.held.items c.restart.new.self.held.items
+    old.supply.past_the_last (restarted old.disk.held.items p q old.disk.inside c.restart.ensures.pass) c.start.ensures.power c.restart.ensures.held
+
+pub returns-clause-after : goal.returns-clause-after
+returns-clause-after c =
+    let old = c.args.self.now in
+    let p : Pass = record { mem = old.disk.bytes.items; left = old.choices.items } in
+    let q : Pass = record { mem = c.restart.new.self.bytes.items; left = c.restart.new.choices.items } in
+    let size : blocks_in (length q.mem) ≡ blocks_in (length p.mem) = ap blocks_in (restarted old.disk.held.items p q old.disk.inside c.restart.ensures.pass).long in
+    grind (arith, common_steps, size)

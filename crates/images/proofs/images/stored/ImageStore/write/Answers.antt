@@ -1,26 +1,26 @@
-use Rattle.std.proofs.Common.{◌≡◌, ◌+◌, ◌-◌, ◌*◌, ◌≤◌, length, vec_items, ◌∙◌, arith, rules}
+use Rattle.std.proofs.Common.{◌≡◌, ◌+◌, ◌-◌, ◌*◌, ◌≤◌, length, vec_items, ◌∙◌, ap, arith, rules}
 use borrow.Rule.Slice.PartMut.{put_mid}
 use Rattle.std.proofs.lemmas.List.{with_items_is}
-use Rattle.images.specs.Blocks.{image_wrote, length_put_mid, copied_is}
+use Rattle.faults.specs.declared.faults.Layer.TheVariants.{Device}
+use Rattle.stores.proofs.Admitted.{in_range}
+use Rattle.images.specs.Images.{blocks_in}
+use Rattle.images.specs.Blocks.{image_wrote, length_put_mid}
 use Rattle.images.proofs.images.stored.ImageStore.write.Goals as goal
 
-pub returns : goal.returns
-returns c =
+pub returns-clause-outcome : goal.returns-clause-outcome
+returns-clause-outcome c =
     let old = c.args.self.now in
     let from = 504 * c.args.block in
     let k = from + 504 - from in
-    let long : 504 * old.blocks ≤ length (vec_items old.bytes) = omega (arith, old.fits, old.bytes.ok.0) in
-    let len : length (put_mid from k c.deref_mut.result.now c.copy_from_slice.new.self) ≡ old.bytes.len =
-    length_put_mid c.deref_mut.result.now c.copy_from_slice.new.self from k (omega arith) (omega arith) ∙ c.deref_mut.ensures.len in
-    let whole : _ ≡ put_mid from k c.deref_mut.result.now c.copy_from_slice.new.self = with_items_is old.bytes (put_mid from k c.deref_mut.result.now c.copy_from_slice.new.self) len in
+    let here = in_range Device (blocks_in (length (vec_items old.bytes))) old.on c.args.block (length c.args.bytes.now) (search rules) in
+    let fit : from + k ≤ length c.deref_mut.result.now = omega (arith, ap length c.deref_mut.ensures.value, here) in
+    let put = put_mid from k c.deref_mut.result.now c.copy_from_slice.new.self in
+    let len : length put ≡ old.bytes.len = length_put_mid c.deref_mut.result.now c.copy_from_slice.new.self from k fit (omega arith) ∙ c.deref_mut.ensures.len in
+    let whole : _ ≡ put = with_items_is old.bytes put len in
     record {
-      outcome = λ _. record {
-        range = search rules;
-        buffer = search rules;
-        off = search rules;
-        served = λ h l o.
-            image_wrote old.blocks old.on (vec_items old.bytes) _ c.args.bytes.now c.args.block k o h long l (omega arith) (whole ∙ cc);
-      };
-      state = search rules;
-      memory = whole ∙ copied_is (vec_items old.bytes) c.deref_mut.result.now c.args.bytes.now c.copy_from_slice.new.self c.args.block c.deref_mut.ensures.value c.copy_from_slice.ensures.after;
+      range = search rules;
+      buffer = search rules;
+      off = search rules;
+      served = λ h l o.
+          image_wrote old.on (vec_items old.bytes) _ c.args.bytes.now c.args.block k o h (ap length whole ∙ len ∙ old.bytes.ok.0) l (omega arith) (whole ∙ cc);
     }

@@ -1,0 +1,11 @@
+use Rattle.std.proofs.Common.{◌≡◌, length}
+use Rattle.benches.specs.Passes.{Pass, passed}
+use Rattle.benches.proofs.disk.Disk.restart.Given as goal
+
+abbrev pub invariant-loop-b : goal.invariant-loop-b
+invariant-loop-b l =
+    record {
+      held : l.self.held ≡ l.initial.self.held;
+      long : length l.self.bytes.items ≡ length l.initial.self.bytes.items;
+      pass : ◌≡◌ {A = Pass} (record { mem = l.self.bytes.items; left = l.choices.items }) (passed l.initial.self.held.items (record { mem = l.initial.self.bytes.items; left = l.initial.choices.items }) l.b);
+    }

@@ -1,0 +1,55 @@
+-- The words after a command's name, read one after another. Assumes nothing.
+use Rattle.std.proofs.Common.{◌≡◌, ℕ, List, [], ◌∷◌, length, get_or, ℤ, Some, None, Ok, Err, Option, Result, Bor, sym, refl, arith}
+use Rattle.std.specs.Option.{ok_or}
+use Rattle.parsing.specs.Lines.{or_else, reservoir_of, read_reservoir, insert_of, read_insert, slot_of, read_slot}
+use Rattle.parsing.specs.Numerals.{read_number, read_seed, read_offset}
+use Rattle.parsing.specs.Words.{texts}
+use Rattle.parsing.specs.declared.forms.Line.TheVariants.{Reservoir, Asks}
+use Rattle.script.specs.declared.commands.Command.TheVariants.{Insert, Slot}
+use Rattle.script.specs.declared.expectations.Expected.{Expected}
+use Rattle.script.specs.declared.expectations.Expected.TheVariants as expected
+
+-- a word that says nothing, and what was expected of it
+pub missed : {T : Type 0} {o : Option T} {e f : Expected} {r : Result T Expected} → r ≡ ok_or o e → r ≡ Err f → (o ≡ None) × (f ≡ e)
+missed {o = Some x} d h = absurd (cc (d, h))
+missed {o = None} d h = (refl, cc)
+
+-- by how many words they are
+pub one : (ws : List (Bor (List ℕ))) (d : Bor (List ℕ)) → length ws ≡ 1 → read_slot (texts ws) ≡ slot_of (get_or ws 0 d).now
+one [] d n = absurd (omega arith)
+one (w ∷ []) d n = refl
+one (w ∷ v ∷ ws) d n = absurd (omega arith)
+
+pub two : (ws : List (Bor (List ℕ))) (d e : Bor (List ℕ)) → length ws ≡ 2 → read_reservoir (texts ws) ≡ reservoir_of (get_or ws 0 d).now (get_or ws 1 e).now
+two [] d e n = absurd (omega arith)
+two (w ∷ []) d e n = absurd (omega arith)
+two (w ∷ v ∷ []) d e n = refl
+two (w ∷ v ∷ u ∷ ws) d e n = absurd (omega arith)
+
+pub three : (ws : List (Bor (List ℕ))) (d e f : Bor (List ℕ)) → length ws ≡ 3 → read_insert (texts ws) ≡ insert_of (get_or ws 0 d).now (get_or ws 1 e).now (get_or ws 2 f).now
+three [] d e f n = absurd (omega arith)
+three (w ∷ []) d e f n = absurd (omega arith)
+three (w ∷ v ∷ []) d e f n = absurd (omega arith)
+three (w ∷ v ∷ u ∷ []) d e f n = refl
+three (w ∷ v ∷ u ∷ t ∷ ws) d e f n = absurd (omega arith)
+
+-- the words of a command, by what was read of each so far
+module _ (ws : List (Bor (List ℕ))) (d : Bor (List ℕ)) where
+  pub slot_index : (o : Option ℕ) → length ws ≡ 1 → o ≡ read_number 10 0xFFFF (get_or ws 0 d).now → or_else o expected.Slot (λ i. Ok (Asks (Slot i))) ≡ read_slot (texts ws)
+  slot_index o n h = rw h (sym (one ws d n))
+
+  module _ (e : Bor (List ℕ)) where
+    pub reservoir_seed : (o p : Option ℕ) → length ws ≡ 2 → o ≡ read_number 10 0xFFFF (get_or ws 0 d).now → p ≡ read_seed (get_or ws 1 e).now → or_else o expected.Size (λ m. or_else p expected.Seed (λ s. Ok (Reservoir m s))) ≡ read_reservoir (texts ws)
+    reservoir_seed o p n h k = rw (h, k) (sym (two ws d e n))
+
+    pub insert_offset : (f : Bor (List ℕ)) (o p : Option ℕ) (q : Option ℤ) → length ws ≡ 3 → o ≡ read_number 10 0xFFFF_FFFF (get_or ws 0 d).now → p ≡ read_number 10 0xFFFF_FFFF (get_or ws 1 e).now → q ≡ read_offset (get_or ws 2 f).now → or_else o expected.Second (λ t. or_else p expected.Satellite (λ s. or_else q expected.Offset (λ x. Ok (Asks (Insert t s x))))) ≡ read_insert (texts ws)
+    insert_offset f o p q n h k l = rw (h, k, l) (sym (three ws d e f n))
+
+    pub insert_satellite : (o p : Option ℕ) → length ws ≡ 3 → o ≡ read_number 10 0xFFFF_FFFF (get_or ws 0 d).now → p ≡ read_number 10 0xFFFF_FFFF (get_or ws 1 e).now → or_else o expected.Second (λ t. or_else p expected.Satellite (λ s. or_else (read_offset (get_or ws 2 d).now) expected.Offset (λ x. Ok (Asks (Insert t s x))))) ≡ read_insert (texts ws)
+    insert_satellite o p n h k = insert_offset d o p _ n h k refl
+
+  pub reservoir_size : (o : Option ℕ) → length ws ≡ 2 → o ≡ read_number 10 0xFFFF (get_or ws 0 d).now → or_else o expected.Size (λ m. or_else (read_seed (get_or ws 1 d).now) expected.Seed (λ s. Ok (Reservoir m s))) ≡ read_reservoir (texts ws)
+  reservoir_size o n h = reservoir_seed d o _ n h refl
+
+  pub insert_second : (o : Option ℕ) → length ws ≡ 3 → o ≡ read_number 10 0xFFFF_FFFF (get_or ws 0 d).now → or_else o expected.Second (λ t. or_else (read_number 10 0xFFFF_FFFF (get_or ws 1 d).now) expected.Satellite (λ s. or_else (read_offset (get_or ws 2 d).now) expected.Offset (λ x. Ok (Asks (Insert t s x))))) ≡ read_insert (texts ws)
+  insert_second o n h = insert_satellite d o _ n h refl
