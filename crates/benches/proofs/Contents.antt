@@ -1,15 +1,15 @@
 -- What a settled or torn block leaves of each block. Assumes nothing.
-use Rattle.std.proofs.Common.{◌≡◌, ◌≢◌, ℕ, ◌+◌, ◌-◌, ◌*◌, ◌≤◌, cond, ◌==◌, List, length, take, drop, slice_index, slice_set, sym, ◌∙◌, ap, ⊎_elim, arith}
+use Rattle.std.proofs.Common.{◌≡◌, ◌≢◌, ℕ, ◌+◌, ◌*◌, ◌≤◌, cond, ◌==◌, List, length, take, drop, slice_index, slice_set, sym, ◌∙◌, ap, ⊎_elim, arith}
 use borrow.Rule.Slice.PartMut.{put_mid}
-use Rattle.std.proofs.lemmas.List.{length-take, length-drop, length-append, length-set, drop-take, take-take, get_or-take, get_or-drop, get_or-set_same, take-set-le, drop-set-lt}
-use Rattle.std.proofs.lemmas.Slice.{between-put_mid, drop-put_mid, take-put_mid_below}
+use Rattle.std.proofs.lemmas.List.{length-set, drop-take, take-take, get_or-take, get_or-drop, get_or-set_same, take-set-le, drop-set-lt}
 use Rattle.std.proofs.lemmas.Bool.{cases_lt}
 use Rattle.stores.specs.Meanings.{Content, whole, torn}
+use Rattle.stores.proofs.Places.{span_of, length_put, put_here, put_other}
 use Rattle.benches.specs.Held.{content, settled, tore}
 
 -- the bytes of a block, and the one after them
 abbrev slot : List ℕ → ℕ → List ℕ
-slot m b = take 505 (drop (505 * b) m)
+slot m b = span_of 505 m b
 
 abbrev seen : ℕ → List ℕ → Content
 seen f xs = cond (f == 0) (whole xs) torn
@@ -33,18 +33,8 @@ slot_set m a b v ne =
     (λ above. ap (λ (xs : List ℕ). take 505 xs) (drop-set-lt (505 * b) m (505 * a + 504) v (omega arith)))
     (cases_lt b a)
 
-slot_put : (m ys : List ℕ) (a b : ℕ) → 505 * a + 505 ≤ length m → length ys ≡ 504 → (b ≢ a) → slot (put_mid (505 * a) 504 m ys) b ≡ slot m b
-slot_put m ys a b f l ne =
-    ⊎_elim
-    (λ below. slot_from (put_mid (505 * a) 504 m ys) b ∙ ap (λ (xs : List ℕ). drop (505 * b) xs) (take-put_mid_below (505 * a) 504 m ys (505 * b + 505) (omega arith) (omega arith)) ∙ sym (slot_from m b))
-    (λ above. ap (λ (xs : List ℕ). take 505 xs) (drop-put_mid (505 * a) 504 m ys (505 * b) (omega arith) (omega arith) l))
-    (cases_lt b a)
-
-length_put : (m ys : List ℕ) (a : ℕ) → 505 * a + 505 ≤ length m → length ys ≡ 504 → length (put_mid (505 * a) 504 m ys) ≡ length m
-length_put m ys a f l = simp (length-append, length-take, length-drop) (omega arith)
-
 pub length_settled : (m ys : List ℕ) (a : ℕ) → 505 * a + 505 ≤ length m → length ys ≡ 504 → length (settled m a ys) ≡ length m
-length_settled m ys a f l = length-set (put_mid (505 * a) 504 m ys) (505 * a + 504) 0 ∙ length_put m ys a f l
+length_settled m ys a f l = length-set (put_mid (505 * a) 504 m ys) (505 * a + 504) 0 ∙ length_put m ys (505 * a) 504 (omega arith) l
 
 pub length_tore : (m : List ℕ) (a : ℕ) → length (tore m a) ≡ length m
 length_tore m a = length-set m (505 * a + 504) 1
@@ -53,15 +43,13 @@ length_tore m a = length-set m (505 * a + 504) 1
 pub settled_here : (m ys : List ℕ) (a : ℕ) → 505 * a + 505 ≤ length m → length ys ≡ 504 → content (settled m a ys) a ≡ whole ys
 settled_here m ys a f l =
     let n = put_mid (505 * a) 504 m ys in
-    let k : 505 * a + 504 - 505 * a ≡ 504 = omega arith in
-    let bytes : take 504 (drop (505 * a) n) ≡ ys = rw k at (between-put_mid (505 * a) 504 m ys (505 * a + 504) (omega arith) (omega arith)) in
     let before : drop (505 * a) (take (505 * a + 504) (settled m a ys)) ≡ drop (505 * a) (take (505 * a + 504) n) =
     ap (λ (xs : List ℕ). drop (505 * a) xs) (take-set-le (505 * a + 504) n (505 * a + 504) 0 (omega arith)) in
-    ap (λ i. seen i (take 504 (drop (505 * a) (settled m a ys)))) (get_or-set_same n (505 * a + 504) 0 0 (omega (arith, length_put m ys a f l)))
-    ∙ ap whole (sym (drop-take (505 * a) 504 (settled m a ys)) ∙ before ∙ drop-take (505 * a) 504 n ∙ bytes)
+    ap (λ i. seen i (take 504 (drop (505 * a) (settled m a ys)))) (get_or-set_same n (505 * a + 504) 0 0 (omega (arith, length_put m ys (505 * a) 504 (omega arith) l)))
+    ∙ ap whole (sym (drop-take (505 * a) 504 (settled m a ys)) ∙ before ∙ drop-take (505 * a) 504 n ∙ put_here m ys (505 * a) 504 504 (omega arith) l)
 
 pub settled_other : (m ys : List ℕ) (a b : ℕ) → 505 * a + 505 ≤ length m → length ys ≡ 504 → (b ≢ a) → content (settled m a ys) b ≡ content m b
-settled_other m ys a b f l ne = content_same (settled m a ys) m b (slot_set (put_mid (505 * a) 504 m ys) a b 0 ne ∙ slot_put m ys a b f l ne)
+settled_other m ys a b f l ne = content_same (settled m a ys) m b (slot_set (put_mid (505 * a) 504 m ys) a b 0 ne ∙ put_other 505 504 m ys a b (omega arith) (omega arith) l ne)
 
 pub tore_here : (m : List ℕ) (a : ℕ) → 505 * a + 505 ≤ length m → content (tore m a) a ≡ torn
 tore_here m a f = ap (λ i. seen i (take 504 (drop (505 * a) (tore m a)))) (get_or-set_same m (505 * a + 504) 1 0 (omega arith))

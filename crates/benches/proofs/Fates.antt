@@ -6,7 +6,7 @@ use Rattle.benches.specs.declared.held.Held.{Held}
 use Rattle.benches.specs.Held.{blocks_in, content, writes_of, Among, Inside}
 use Rattle.benches.specs.Passes.{Pass, settled_or_tore, kept, choice, decided, passed}
 use Rattle.benches.proofs.Contents.{settled_here, settled_other, length_settled, tore_here, tore_other, length_tore}
-use Rattle.benches.specs.Lawful.{inside_length}
+use Rattle.benches.specs.Lawful.{among_length}
 use Rattle.benches.proofs.Writes.{among_get, among_torn}
 
 abbrev pub Stands : List ℕ → List Held → ℕ → Content → Type 0
@@ -77,7 +77,7 @@ fated hs p n zero i f h = record { standing = λ b. inl refl; ahead = λ b l. re
 fated hs p n (suc k) i f h =
     let was = fated hs p n k i f (omega arith) in
     fated_more p.mem (passed hs p k).mem (passed hs p (suc k)).mem hs k was
-    (decided_pass (passed hs p k) k (writes_of hs k) (omega (arith, was.long)) (λ bs a. inside_length (length p.mem) hs k bs i a))
+    (decided_pass (passed hs p k) k (writes_of hs k) (omega (arith, was.long)) (λ bs a. among_length hs k bs a))
 
 -- a restart decides each block
 pub restarted : (hs : List Held) (p q : Pass) → Inside (length p.mem) hs → q ≡ passed hs p (blocks_in (length p.mem)) → Fated p.mem q.mem hs (blocks_in (length p.mem))

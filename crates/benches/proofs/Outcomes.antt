@@ -1,11 +1,11 @@
 -- What a bench's calls do to its meaning. Assumes nothing.
-use Rattle.std.proofs.Common.{◌≡◌, ℕ, ◌<◌, Bool, true, false, cond, eqb, ltb, leb, ◌⊎◌, List, [], ◌∷◌, ◌++◌, length, Ok, Err, sym, refl, ap, ◌∙◌, subst, inl, inr, ⊎_elim, arith}
-use Rattle.std.proofs.lemmas.Bool.{cases_eq, cond_both, true≢false, false≢true, leb-false, ltb-true, ltb-false, eqb-true, eqb-false}
-use Rattle.faults.specs.declared.faults.Fault.{Fault}
+use Rattle.std.proofs.Common.{◌≡◌, ℕ, Bool, true, false, cond, eqb, ltb, ◌⊎◌, List, [], ◌∷◌, ◌++◌, length, Ok, sym, refl, ap, ◌∙◌, subst, inl, inr, ⊎_elim, arith}
+use Rattle.std.proofs.lemmas.Bool.{cases_eq, cond_both, true≢false, false≢true, ltb-true, ltb-false, eqb-true, eqb-false}
 use Rattle.faults.specs.declared.faults.Layer.TheVariants.{Device}
 use Rattle.stores.specs.Meanings.{Content, whole, Meaning, Settled, Written}
 use Rattle.stores.specs.Outcomes.{Answer, WriteServed, WriteOutcome, FlushOutcome, Restarted}
 use Rattle.stores.specs.Admission.{powered, admission}
+use Rattle.stores.proofs.Admitted.{in_range, of_a_block, is_on as admitted_on}
 use Rattle.benches.specs.declared.held.Held.{Held}
 use Rattle.benches.specs.declared.power.Power.{Power}
 use Rattle.benches.specs.declared.power.Power.TheVariants.{Off, Fuse, Lasting}
@@ -107,23 +107,6 @@ spent_lasting Off l = l
 spent_lasting (Fuse n) l = absurd (false≢true l)
 spent_lasting Lasting l = refl
 
--- a store that admits a call has the block, the right length, and is on
-pub record Admitted (size b n : ℕ) (on : Bool) : Type 0 where
-  pub range : b < size
-  pub long : n ≡ 504
-  pub power : on ≡ true
-
-admitted_by : (x y on : Bool) (e f g : Fault) → ◌≡◌ {A = Answer} (Ok tt) (cond x (Err e) (cond y (cond on (Ok tt) (Err f)) (Err g))) → (x ≡ false) × (y ≡ true) × (on ≡ true)
-admitted_by true y on e f g r = cc
-admitted_by false false on e f g r = cc
-admitted_by false true false e f g r = cc
-admitted_by false true true e f g r = (refl, refl, refl)
-
-pub admitted : (size b n : ℕ) (on : Bool) → ◌≡◌ {A = Answer} (Ok tt) (admission Device size on b n) → Admitted size b n on
-admitted size b n on r =
-    let a = admitted_by (leb size b) (eqb n 504) on _ _ _ r in
-    record { range = leb-false size b a.0; long = eqb-true n 504 a.1; power = a.2 }
-
 size_room : (mem : List ℕ) (hs : List Held) → Inside (length mem) hs → length (room_mem mem hs) ≡ length mem
 size_room mem hs i =
     let P : List ℕ → Type 0 = λ x. length x ≡ length mem in
@@ -153,16 +136,18 @@ write_served false p mem hs h g i =
       };
     }
 
-write_base : (p : Power) (mem : List ℕ) (hs : List Held) (h : Held) → Admitted (blocks_in (length mem)) h.block (length h.bytes) (is_on p) → Inside (length mem) hs → WriteOutcome 504 Device Device (bench_meaning p mem hs) (bench_meaning (spent p) (room_mem mem hs) (room_held hs ++ h ∷ [])) h.block h.bytes (powered Device (goes p))
+write_base : (p : Power) (mem : List ℕ) (hs : List Held) (h : Held) → ◌≡◌ {A = Answer} (Ok tt) (admission Device (blocks_in (length mem)) (is_on p) h.block (length h.bytes)) → Inside (length mem) hs → WriteOutcome 504 Device Device (bench_meaning p mem hs) (bench_meaning (spent p) (room_mem mem hs) (room_held hs ++ h ∷ [])) h.block h.bytes (powered Device (goes p))
 write_base p mem hs h a i =
+    let size = blocks_in (length mem) in
+    let n = length h.bytes in
     record {
-      range = λ r. absurd (omega (arith, a.range));
-      buffer = λ r l. absurd (l a.long);
-      off = λ r l o. absurd (true≢false (sym a.power ∙ o));
+      range = λ r. absurd (omega (arith, in_range Device size (is_on p) h.block n a));
+      buffer = λ r l. absurd (l (of_a_block Device size (is_on p) h.block n a));
+      off = λ r l o. absurd (true≢false (sym (admitted_on Device size (is_on p) h.block n a) ∙ o));
       served = λ r l o. write_served (goes p) p mem hs h refl i;
     }
 
-pub write_outcome : (p q : Power) (mem after : List ℕ) (hs all : List Held) (h : Held) (r : Answer) → Admitted (blocks_in (length mem)) h.block (length h.bytes) (is_on p) → Inside (length mem) hs → q ≡ spent p → after ≡ room_mem mem hs → all ≡ room_held hs ++ h ∷ [] → r ≡ powered Device (goes p) → WriteOutcome 504 Device Device (bench_meaning p mem hs) (bench_meaning q after all) h.block h.bytes r
+pub write_outcome : (p q : Power) (mem after : List ℕ) (hs all : List Held) (h : Held) (r : Answer) → ◌≡◌ {A = Answer} (Ok tt) (admission Device (blocks_in (length mem)) (is_on p) h.block (length h.bytes)) → Inside (length mem) hs → q ≡ spent p → after ≡ room_mem mem hs → all ≡ room_held hs ++ h ∷ [] → r ≡ powered Device (goes p) → WriteOutcome 504 Device Device (bench_meaning p mem hs) (bench_meaning q after all) h.block h.bytes r
 write_outcome p q mem after hs all h r a i e f g k =
     let P : Meaning → Type 0 = λ n. WriteOutcome 504 Device Device (bench_meaning p mem hs) n h.block h.bytes (powered Device (goes p)) in
     let Q : Answer → Type 0 = λ x. WriteOutcome 504 Device Device (bench_meaning p mem hs) (bench_meaning q after all) h.block h.bytes x in

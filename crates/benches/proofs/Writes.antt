@@ -46,21 +46,21 @@ among_torn (w ∷ ws) h = inl (inr refl)
 pub inside_none : (len : ℕ) → Inside len []
 inside_none len = λ k l. absurd (omega arith)
 
-pub inside_push : (len : ℕ) (hs : List Held) (h : Held) → Inside len hs → 505 * h.block + 505 ≤ len → length h.bytes ≡ 504 → Inside len (hs ++ h ∷ [])
-inside_push len [] h i f l zero k = (f, l)
-inside_push len [] h i f l (suc n) k = absurd (omega arith)
-inside_push len (x ∷ hs) h i f l zero k = i zero (omega arith)
-inside_push len (x ∷ hs) h i f l (suc n) k = inside_push len hs h (inside_tail len x hs i) f l n (omega arith)
+pub inside_push : (len : ℕ) (hs : List Held) (h : Held) → Inside len hs → 505 * h.block + 505 ≤ len → Inside len (hs ++ h ∷ [])
+inside_push len [] h i f zero k = f
+inside_push len [] h i f (suc n) k = absurd (omega arith)
+inside_push len (x ∷ hs) h i f zero k = i zero (omega arith)
+inside_push len (x ∷ hs) h i f (suc n) k = inside_push len hs h (inside_tail len x hs i) f n (omega arith)
 
 inside_settled : (m : List ℕ) (h : Held) (hs : List Held) → Inside (length m) (h ∷ hs) → Inside (length (settled m h.block h.bytes)) hs
 inside_settled m h hs i =
     let P : ℕ → Type 0 = λ n. Inside n hs in
-    subst P (sym (length_settled m h.bytes h.block (inside_head (length m) h hs i).0 (inside_head (length m) h hs i).1)) (inside_tail (length m) h hs i)
+    subst P (sym (length_settled m h.bytes h.block (inside_head (length m) h hs i) h.long)) (inside_tail (length m) h hs i)
 
 pub length_settled_all : (m : List ℕ) (hs : List Held) → Inside (length m) hs → length (settled_all m hs) ≡ length m
 length_settled_all m [] i = refl
 length_settled_all m (h ∷ hs) i =
-    length_settled_all (settled m h.block h.bytes) hs (inside_settled m h hs i) ∙ length_settled m h.bytes h.block (inside_head (length m) h hs i).0 (inside_head (length m) h hs i).1
+    length_settled_all (settled m h.block h.bytes) hs (inside_settled m h hs i) ∙ length_settled m h.bytes h.block (inside_head (length m) h hs i) h.long
 
 -- what is read is what stands once all is settled
 pub content_settled_all : (m : List ℕ) (hs : List Held) (b : ℕ) → Inside (length m) hs → content (settled_all m hs) b ≡ latest (content m b) (writes_of hs b)
@@ -70,10 +70,10 @@ content_settled_all m (h ∷ hs) b i =
     content_settled_all n hs b (inside_settled m h hs i)
     ∙ ⊎_elim
     (λ e.
-    let here : content n b ≡ whole h.bytes = ap (λ k. content n k) (sym e) ∙ settled_here m h.bytes h.block (inside_head (length m) h hs i).0 (inside_head (length m) h hs i).1 in
+    let here : content n b ≡ whole h.bytes = ap (λ k. content n k) (sym e) ∙ settled_here m h.bytes h.block (inside_head (length m) h hs i) h.long in
     ap (λ c. latest c (writes_of hs b)) here ∙ ap (λ (ws : List (List ℕ)). latest (content m b) ws) (sym (hit h hs b e)))
     (λ ne.
-    ap (λ c. latest c (writes_of hs b)) (settled_other m h.bytes h.block b (inside_head (length m) h hs i).0 (inside_head (length m) h hs i).1 (λ e. ne (sym e)))
+    ap (λ c. latest c (writes_of hs b)) (settled_other m h.bytes h.block b (inside_head (length m) h hs i) h.long (λ e. ne (sym e)))
     ∙ ap (λ (ws : List (List ℕ)). latest (content m b) ws) (sym (miss h hs b ne)))
     (cases_eq h.block b)
 

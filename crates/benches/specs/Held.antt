@@ -1,5 +1,6 @@
 -- What a bench's memory and its held writes say of each block. Assumes nothing.
-use Rattle.std.specs.Prelude.{◌≡◌, ℕ, ◌+◌, ◌*◌, ◌/◌, ◌<◌, ◌≤◌, min, cond, ◌⊎◌, List, [], ◌∷◌, length, take, drop, map, filter, Option, None, Some, ◌==◌, nat_lt, slice_index, slice_index_or, slice_set}
+use Rattle.std.specs.Prelude.{◌≡◌, refl, Bool, true, false, replicate, ℕ, ◌+◌, ◌*◌, ◌/◌, ◌<◌, ◌≤◌, min, cond, ◌⊎◌, List, [], ◌∷◌, length, take, drop, map, filter, Option, None, Some, ◌==◌, nat_lt, slice_index, slice_index_or, slice_set}
+use Rattle.std.proofs.lemmas.Bool.{eqb-true}
 use borrow.Rule.Slice.PartMut.{put_mid}
 use Rattle.stores.specs.Meanings.{Content, whole, torn, Meaning}
 use Rattle.benches.specs.declared.held.Held.{Held}
@@ -50,16 +51,26 @@ settled_all mem (h ∷ hs) = settled_all (settled mem h.block h.bytes) hs
 abbrev pub room_mem : List ℕ → List Held → List ℕ
 room_mem mem held = cond (nat_lt (length held) 16) mem (settled_all mem held)
 
+-- and are held no more
 abbrev pub room_held : List Held → List Held
 room_held held = cond (nat_lt (length held) 16) held []
 
 -- what stands for a write past the last one
 abbrev pub blank : Held
-blank = record { block = 0; bytes = [] }
+blank = record { block = 0; bytes = replicate 504 0; long = refl }
 
--- each held write is of a block in the memory, and is of 504 bytes
+-- the write of these bytes to block b, if the test found that they are 504
+abbrev pub held_if : (b : ℕ) (bs : List ℕ) (t : Bool) → (length bs == 504) ≡ t → Option Held
+held_if b bs true e = Some (record { block = b; bytes = bs; long = eqb-true (length bs) 504 e })
+held_if b bs false e = None
+
+-- the write of these bytes to block b, if they are 504
+abbrev pub held_of : ℕ → List ℕ → Option Held
+held_of b bs = held_if b bs (length bs == 504) refl
+
+-- each held write is of a block in the memory
 abbrev pub Inside : ℕ → List Held → Type 0
-Inside len held = (i : ℕ) → i < length held → (505 * (slice_index_or held i blank).block + 505 ≤ len) × (length (slice_index_or held i blank).bytes ≡ 504)
+Inside len held = (i : ℕ) → i < length held → 505 * (slice_index_or held i blank).block + 505 ≤ len
 
 -- a block reads its last held write, or else what is settled; after a cut that, any held write of it or torn may stand
 abbrev pub bench_meaning : Power → List ℕ → List Held → Meaning

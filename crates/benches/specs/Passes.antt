@@ -3,6 +3,7 @@ use Rattle.std.specs.Prelude.{ℕ, zero, suc, ◌+◌, ◌%◌, cond, List, leng
 use Rattle.benches.specs.declared.held.Held.{Held}
 use Rattle.benches.specs.Held.{writes_of, settled, tore}
 
+-- the memory, and the choices left
 pub record Pass : Type 0 where
   pub mem : List ℕ
   pub left : List ℕ

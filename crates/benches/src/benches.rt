@@ -1,6 +1,7 @@
 use crate::disk::Disk;
 use crate::supply::Supply;
 use std::collections::VecDeque;
+use std::marker::Model;
 
 pub mod stored;
 
@@ -20,4 +21,13 @@ pub struct Bench {
     disk: Disk,
     supply: Supply,
     choices: VecDeque<u8>,
+}
+
+// What a caller sees: no `Vec` and no queue, but what stands in them.
+impl Model for Bench {
+    ghost use Rattle.benches.specs.Views.{View};
+
+    ghost Value = { View };
+
+    ghost view = { λ s. record { mem = s.disk.bytes.items; held = s.disk.held.items; fuses = s.supply.fuses.items; power = s.supply.power; left = s.choices.items } };
 }

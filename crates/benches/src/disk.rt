@@ -3,7 +3,8 @@ ghost use Rattle.std.specs.Option.{option_copied, option_map};
 ghost use Rattle.benches.specs.Held.{blocks_in, content, shown, settled, writes_of, latest, settled_all, room_mem, room_held, Inside};
 ghost use Rattle.benches.specs.Passes.{Pass, settled_or_tore, chosen, left_after, passed};
 
-use crate::held::{Held, count, last, nth};
+use crate::finds::{count, last, nth};
+use crate::held::Held;
 use std::alloc::Global;
 use std::collections::VecDeque;
 use stores::{BLOCK_BYTES, BLOCK_LIMIT};
@@ -14,7 +15,9 @@ const SPAN: usize = BLOCK_BYTES + 1;
 // How many writes are held at most.
 const HELD_LIMIT: usize = 16;
 
-// Settled blocks in the caller's memory, and the writes that are not settled in it yet.
+// Settled blocks in the caller's memory, and the writes that are not settled in it yet. These are in a `Vec` with room
+// from the start: a vector of fixed room, as `arrayvec` has one, would be one more crate to trust.
+// That a block lies in the memory is asked in each call below: no type of the block alone can keep a fact of this memory.
 #[derive(Drop)]
 pub struct Disk {
     bytes: Vec<u8>,
@@ -66,7 +69,7 @@ impl Disk {
         }
     }
 
-    // The memory, with what is settled in it.
+    // The memory, with what is settled in it. A method as std's `into_bytes`, and no `From`: the name says what is left.
     pub(crate) fn into_bytes(self) -> Vec<u8>
         ensures { result ≡ self.bytes }
     {
@@ -74,7 +77,7 @@ impl Disk {
         bytes
     }
 
-    // As many whole blocks as fit in the memory, up to the limit.
+    // As many whole blocks as fit in the memory, up to the limit. As an image has it, in blocks of another span.
     pub(crate) fn size(&self) -> u32
         ensures { result ≡ blocks_in (length self.now.bytes.items) }
     {
@@ -108,20 +111,21 @@ impl Disk {
     }
 
     // Holds a write; a 17th first settles the 16.
-    pub(crate) fn hold(&mut self, block: u32, bytes: [u8; BLOCK_BYTES])
-        requires { block < blocks_in (length self.old.bytes.items) }
+    pub(crate) fn hold(&mut self, write: Held)
+        requires { write.block < blocks_in (length self.old.bytes.items) }
         ensures memory { self.new.bytes.items ≡ room_mem self.old.bytes.items self.old.held.items }
-        ensures held { self.new.held.items ≡ room_held self.old.held.items ++ record { block = block; bytes = bytes } ∷ [] }
+        ensures held { self.new.held.items ≡ room_held self.old.held.items ++ write ∷ [] }
         ensures long { length self.new.bytes.items ≡ length self.old.bytes.items }
     {
         if self.held.len() >= HELD_LIMIT {
             self.settle();
         }
-        self.held.push_reserved(Held { block, bytes });
+        self.held.push_reserved(write);
     }
 
     // Which held write of a block is kept, from 0: none where what is settled stays, and past the last the block is torn.
-    // If a write of it is held, the next choice decides.
+    // If a write of it is held, the next choice decides. It gives a number and no write: torn counts as one past the held
+    // writes, and `nth` has none there.
     fn chosen(&self, block: u32, choices: &mut VecDeque<u8>) -> Option<usize>
         ensures number { result ≡ chosen (length (writes_of self.now.held.items block)) choices.old.items }
         ensures left { choices.new.items ≡ left_after (length (writes_of self.now.held.items block)) choices.old.items }
@@ -131,7 +135,7 @@ impl Disk {
             return None;
         }
         let choice = choices.pop_front().unwrap_or(0);
-        (choice as usize % (writes + 2)).checked_sub(1)
+        (usize::from(choice) % (writes + 2)).checked_sub(1)
     }
 
     // Decides what stands at each block, and holds nothing after it.

@@ -3,6 +3,7 @@
 
 mod benches;
 mod disk;
+mod finds;
 mod held;
 mod power;
 mod supply;

@@ -66,7 +66,8 @@ impl From<Layer> for u8 {
     }
 }
 
-// A refusal. Every layer hands one from below on as it is, by `?`.
+// A refusal. Every layer hands one from below on as it is, by `?`. The place is no part of the reason, since the format
+// has a number, a layer and a place for each.
 #[derive(Clone, Copy, PartialEq, Eq, Debug)]
 pub struct Fault {
     pub reason: Reason,

@@ -54,7 +54,8 @@ impl fmt::Display for Reason {
     }
 }
 
-// As `4 (record)`.
+// As `4 (record)`. It is as that of a reason, and by itself, since no impl of Display can stand for every type that has a
+// number and words, and a trait for the two would be longer than this line twice.
 impl fmt::Display for Layer {
     ghost output = { λ l. Some (layer_shown l) };
 

@@ -32,6 +32,7 @@ image_meaning on bytes = record {
   lasts = true;
 }
 
+-- what an image means: that of its memory, and of whether it is on
 abbrev pub meaning_of : Image → Meaning
 meaning_of s = image_meaning s.on (vec_items s.bytes)
 

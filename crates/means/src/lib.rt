@@ -18,7 +18,7 @@ fn thousandths(sum: u64, count: u64) -> u128
     requires { 0 < count }
     ensures { result ≡ thousandths_of sum count }
 {
-    (2000 * sum as u128 + count as u128) / (2 * count as u128)
+    (2000 * u128::from(sum) + u128::from(count)) / (2 * u128::from(count))
 }
 
 // With three decimals, halves away from zero, and no sign before zero; `none` of no numbers.

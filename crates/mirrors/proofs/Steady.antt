@@ -1,10 +1,10 @@
 -- A mirror that is sound stays sound, whatever store it is over. Assumes nothing.
-use Rattle.std.proofs.Common.{◌≡◌, ℕ, ◌+◌, ◌<◌, List, sym, refl, ◌∙◌, ap, ⊎_elim, arith}
+use Rattle.std.proofs.Common.{◌≡◌, ℕ, ◌+◌, ◌<◌, Bool, List, sym, refl, ◌∙◌, ap, ⊎_elim, arith}
 use Rattle.std.proofs.lemmas.Bool.{cases_eq}
-use Rattle.stores.specs.Meanings.{Content, whole, torn, Meaning, Same, Cut, Nothing, Written}
+use Rattle.stores.specs.Meanings.{Content, whole, torn, Meaning, Settled, Same, Cut, Nothing, Written}
 use Rattle.stores.specs.Outcomes.{Flushed}
-use Rattle.mirrors.specs.Mirrors.{either, half, Copies, Paired}
-use Rattle.mirrors.specs.Repairs.{Stored, Twins}
+use Rattle.mirrors.specs.Mirrors.{either, half, mirror_meaning, Copies, Paired}
+use Rattle.mirrors.specs.Repairs.{Stored}
 use Rattle.stores.proofs.Sameness.{settled_same}
 use Rattle.mirrors.proofs.Mends.{half_same}
 
@@ -87,10 +87,18 @@ module _ (m : Meaning) (p : Paired m) where
         let ne : b ≡ half m + a → ⊥ = λ q. omega arith in
         kept_sound k a bs s b g (e ∙ u.others b (omega (arith, s.size)) ne)
 
--- two copies of a block of a mirror that is on
-pub twins_at : (m : Meaning) (b : ℕ) → b < half m → Paired m → Twins m b (half m + b)
-twins_at m b h p = record { on = p.on; settled = p.settled; first = omega arith; second = omega arith; apart = omega arith }
+-- a mirror that is on is settled, as the store below is
+pub paired_settled : (on : Bool) (m : Meaning) → Paired m → Settled (mirror_meaning on m)
+paired_settled on m p =
+    record {
+      holds = λ b h. record { first = m.reads b; second = m.reads (half m + b); at_first = p.settled.holds b (omega arith); at_second = p.settled.holds (half m + b) (omega arith); is = refl };
+      only = λ b c h z.
+          let x = p.settled.only b z.first (omega arith) z.at_first in
+          let y = p.settled.only (half m + b) z.second (omega arith) z.at_second in
+          z.is ∙ cc;
+    }
 
+-- a mirror that is on still is where nothing changed below
 pub same_paired : (m n : Meaning) → Same m n → Paired m → Paired n
 same_paired m n s p =
     let k : half n ≡ half m = half_same m n s.size in

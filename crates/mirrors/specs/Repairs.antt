@@ -14,6 +14,7 @@ pub record Ready (m : Meaning) (a : ℕ) (bytes : List ℕ) : Type 0 where
   pub buffer : length bytes ≡ 504
   pub on : m.on ≡ true
 
+-- what such a write leaves
 pub record Stored (m n : Meaning) (a : ℕ) (bytes : List ℕ) : Type 0 where
   pub size : n.size ≡ m.size
   pub on : n.on ≡ true
@@ -26,16 +27,17 @@ abbrev pub StoreOutcome : Layer → Meaning → Meaning → ℕ → List ℕ →
 StoreOutcome source m n a bytes (Ok done) = Stored m n a bytes
 StoreOutcome source m n a bytes (Err e) = Failed source m n (Written a bytes) e
 
--- a block's bytes, or none if it is torn; nothing changed
+-- a block that reads these bytes, or is torn where there are none
 abbrev pub read_of : Option (List ℕ) → Content
 read_of (Some bytes) = whole bytes
 read_of None = torn
 
+-- what a block reads; nothing changed
 abbrev pub Probed : Layer → Meaning → Meaning → ℕ → Result (Option (List ℕ)) Fault → Type 0
 Probed source m n b (Ok found) = (m.reads b ≡ read_of found) × Same m n
 Probed source m n b (Err e) = Failed source m n Nothing e
 
--- the first copy's bytes, or the second's if the first is torn, or none if both are; nothing changed
+-- what two copies read, the second where the first is torn; nothing changed
 abbrev pub Both : Layer → Meaning → Meaning → ℕ → ℕ → Result (Option (List ℕ)) Fault → Type 0
 Both source m n a b (Ok found) = (either (m.reads a) (m.reads b) ≡ read_of found) × Same m n
 Both source m n a b (Err e) = Failed source m n Nothing e

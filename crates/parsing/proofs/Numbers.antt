@@ -6,6 +6,7 @@ use Rattle.std.specs.Result.{OkIff, result_ok}
 use Rattle.std.specs.Str.Parse.{AllDigits, IsNumeral, digits_value, ParsesUnsigned, ParsesSigned, ExplainsUnsignedError, HasUnsignedDigitsIfOk, ExplainsSignedError, HasSignedDigitsIfOk}
 use Rattle.std.specs.declared.num.ParseIntError.{ParseIntError}
 use Rattle.std.specs.Char.{digit_value}
+use Rattle.std.proofs.lemmas.Iterator.Adapters.{option_map_id}
 use Rattle.std.proofs.lemmas.Str.Parse.{IsNumeralModel, numerals_by_value, tells_digits, parse_signed_plain, parse_signed_minus, without_leading_plus_none}
 use Rattle.std.proofs.lemmas.Bool.{le-leb, eq-eqb, ne_eqb, leb-true, eqb-true, eqb-false, cases_Bool, and_from, and_parts, cond-true, cond-false}
 use Rattle.std.proofs.lemmas.Bool.Decides.{Decides-and, Decides-ltb}
@@ -45,10 +46,6 @@ plus_is_none : (radix most : ℕ) (bs : List ℕ) → radix ≤ 36 → get_or bs
 plus_is_none radix most [] l e = absurd (omega arith)
 plus_is_none radix most (c ∷ cs) l e = read_none radix most (c ∷ cs) (λ h m. let d : digit_value 43 < radix = rw e at h.1.0 in omega arith)
 
-same_map : {A : Type 0} (o : Option A) → option_map (λ x. x) o ≡ o
-same_map None = refl
-same_map (Some x) = refl
-
 -- a word that has no plus sign in front
 plain_is : (word : List ℕ) → get_or word 0 0 ≢ 43 → plain_word word ≡ Some word
 plain_is word p = rw (ne_eqb (get_or word 0 0) 43 p)
@@ -84,9 +81,13 @@ plainly {word = word} x h none some =
 pub unsigned : {E : Type 0} (k radix most : ℕ) (word : List ℕ) (q : Result ℕ E) → most + 1 ≡ 2 ^ k → get_or word 0 0 ≢ 43 → ParsesUnsigned k radix word q → result_ok q ≡ read_number radix most word
 unsigned k radix most word q m p h =
     let g : OkIff q (IsNumeral radix word × (digits_value radix word < 2 ^ k)) (digits_value radix word) = rw (without_leading_plus_none word p) at h in
-    reads radix most word (λ x. x) q g (λ n. let l = n.1 in (n.0, omega arith)) (λ n. let l = n.1 in (n.0, omega arith)) ∙ same_map _
+    reads radix most word (λ x. x) q g (λ n. let l = n.1 in (n.0, omega arith)) (λ n. let l = n.1 in (n.0, omega arith)) ∙ option_map_id _
 
-pub plain_number : (k most : ℕ) {word : List ℕ} {r : Option ℕ} → most + 1 ≡ 2 ^ k → ReadsPlain (λ t (q : Result ℕ ParseIntError). ParsesUnsigned k 10 t q × ExplainsUnsignedError 10 t q × HasUnsignedDigitsIfOk t q) word r → r ≡ read_number 10 most word
+-- a word that writes an unsigned number of k bits
+abbrev pub PlainUnsigned : ℕ → List ℕ → Option ℕ → Type 0
+PlainUnsigned k = ReadsPlain (λ t (q : Result ℕ ParseIntError). ParsesUnsigned k 10 t q × ExplainsUnsignedError 10 t q × HasUnsignedDigitsIfOk t q)
+
+pub plain_number : (k most : ℕ) {word : List ℕ} {r : Option ℕ} → most + 1 ≡ 2 ^ k → PlainUnsigned k word r → r ≡ read_number 10 most word
 plain_number k most {word} m h =
     plainly _ h (plus_is_none 10 most word (lit≤ tt)) (λ p q g. unsigned k 10 most word q m p g.0)
 
@@ -110,7 +111,11 @@ plus_no_offset : (word : List ℕ) → get_or word 0 0 ≡ 43 → None ≡ read_
 plus_no_offset [] e = absurd (omega arith)
 plus_no_offset (a ∷ rest) e = rw e (ap (λ (o : Option ℕ). option_map pos o) (plus_is_none 10 0x7FFF_FFFF (43 ∷ rest) (lit≤ tt) refl))
 
-pub plain_offset : {word : List ℕ} {r : Option ℤ} → ReadsPlain (λ t (q : Result ℤ ParseIntError). ParsesSigned w32 10 t q × ExplainsSignedError 10 t q × HasSignedDigitsIfOk t q) word r → r ≡ read_offset word
+-- a word that writes a signed number of 32 bits
+abbrev pub PlainSigned : List ℕ → Option ℤ → Type 0
+PlainSigned = ReadsPlain (λ t (q : Result ℤ ParseIntError). ParsesSigned w32 10 t q × ExplainsSignedError 10 t q × HasSignedDigitsIfOk t q)
+
+pub plain_offset : {word : List ℕ} {r : Option ℤ} → PlainSigned word r → r ≡ read_offset word
 plain_offset {word} h = plainly _ h (plus_no_offset word) (λ p q g. signed word q p g.0)
 
 -- a plain word's digits in another radix

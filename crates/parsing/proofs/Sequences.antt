@@ -1,18 +1,25 @@
 -- The words after a command's name, read one after another. Assumes nothing.
-use Rattle.std.proofs.Common.{◌≡◌, ℕ, List, [], ◌∷◌, length, get_or, ℤ, Some, None, Ok, Err, Option, Result, Bor, sym, refl, arith}
+use Rattle.std.proofs.Common.{◌≡◌, ℕ, List, [], ◌∷◌, length, get_or, ℤ, Some, None, Ok, Err, IsErrAnd, Option, Result, Bor, sym, refl, arith}
 use Rattle.std.specs.Option.{ok_or}
 use Rattle.parsing.specs.Lines.{or_else, reservoir_of, read_reservoir, insert_of, read_insert, slot_of, read_slot}
 use Rattle.parsing.specs.Numerals.{read_number, read_seed, read_offset}
 use Rattle.parsing.specs.Words.{texts}
+use Rattle.parsing.proofs.Numbers.{PlainUnsigned, PlainSigned, plain_number, plain_offset}
+use Rattle.parsing.specs.declared.forms.Line.{Line}
 use Rattle.parsing.specs.declared.forms.Line.TheVariants.{Reservoir, Asks}
 use Rattle.script.specs.declared.commands.Command.TheVariants.{Insert, Slot}
 use Rattle.script.specs.declared.expectations.Expected.{Expected}
 use Rattle.script.specs.declared.expectations.Expected.TheVariants as expected
 
--- a word that says nothing, and what was expected of it
-pub missed : {T : Type 0} {o : Option T} {e f : Expected} {r : Result T Expected} → r ≡ ok_or o e → r ≡ Err f → (o ≡ None) × (f ≡ e)
-missed {o = Some x} d h = absurd (cc (d, h))
-missed {o = None} d h = (refl, cc)
+-- a word that says nothing ends the reading with what was expected of it
+pub missed : {T : Type 0} (o : Option T) (e : Expected) (next : T → Result Line Expected) {f : Expected} {q : Result T Expected} {r whole : Result Line Expected}
+    → q ≡ ok_or o e → q ≡ Err f → IsErrAnd r (λ g. g ≡ f) → or_else o e next ≡ whole → r ≡ whole
+missed (Some x) e next d h s all = absurd (cc (d, h))
+missed None e next {r = Ok x} d h s all = absurd s
+missed None e next {r = Err g} d h s all = cc
+
+plain_32 : {word : List ℕ} {r : Option ℕ} → PlainUnsigned 32 word r → r ≡ read_number 10 0xFFFF_FFFF word
+plain_32 = plain_number 32 0xFFFF_FFFF refl
 
 -- by how many words they are
 pub one : (ws : List (Bor (List ℕ))) (d : Bor (List ℕ)) → length ws ≡ 1 → read_slot (texts ws) ≡ slot_of (get_or ws 0 d).now
@@ -35,21 +42,24 @@ three (w ∷ v ∷ u ∷ t ∷ ws) d e f n = absurd (omega arith)
 
 -- the words of a command, by what was read of each so far
 module _ (ws : List (Bor (List ℕ))) (d : Bor (List ℕ)) where
-  pub slot_index : (o : Option ℕ) → length ws ≡ 1 → o ≡ read_number 10 0xFFFF (get_or ws 0 d).now → or_else o expected.Slot (λ i. Ok (Asks (Slot i))) ≡ read_slot (texts ws)
-  slot_index o n h = rw h (sym (one ws d n))
+  pub slot_index : (o : Option ℕ) → length ws ≡ 1 → PlainUnsigned 16 (get_or ws 0 d).now o → or_else o expected.Slot (λ i. Ok (Asks (Slot i))) ≡ read_slot (texts ws)
+  slot_index o n h = rw (plain_number 16 0xFFFF refl h) (sym (one ws d n))
 
   module _ (e : Bor (List ℕ)) where
-    pub reservoir_seed : (o p : Option ℕ) → length ws ≡ 2 → o ≡ read_number 10 0xFFFF (get_or ws 0 d).now → p ≡ read_seed (get_or ws 1 e).now → or_else o expected.Size (λ m. or_else p expected.Seed (λ s. Ok (Reservoir m s))) ≡ read_reservoir (texts ws)
-    reservoir_seed o p n h k = rw (h, k) (sym (two ws d e n))
+    pub reservoir_seed : (o p : Option ℕ) → length ws ≡ 2 → PlainUnsigned 16 (get_or ws 0 d).now o → p ≡ read_seed (get_or ws 1 e).now → or_else o expected.Size (λ m. or_else p expected.Seed (λ s. Ok (Reservoir m s))) ≡ read_reservoir (texts ws)
+    reservoir_seed o p n h k = rw (plain_number 16 0xFFFF refl h, k) (sym (two ws d e n))
 
-    pub insert_offset : (f : Bor (List ℕ)) (o p : Option ℕ) (q : Option ℤ) → length ws ≡ 3 → o ≡ read_number 10 0xFFFF_FFFF (get_or ws 0 d).now → p ≡ read_number 10 0xFFFF_FFFF (get_or ws 1 e).now → q ≡ read_offset (get_or ws 2 f).now → or_else o expected.Second (λ t. or_else p expected.Satellite (λ s. or_else q expected.Offset (λ x. Ok (Asks (Insert t s x))))) ≡ read_insert (texts ws)
-    insert_offset f o p q n h k l = rw (h, k, l) (sym (three ws d e f n))
+    insert_read : (f : Bor (List ℕ)) (o p : Option ℕ) (q : Option ℤ) → length ws ≡ 3 → o ≡ read_number 10 0xFFFF_FFFF (get_or ws 0 d).now → p ≡ read_number 10 0xFFFF_FFFF (get_or ws 1 e).now → q ≡ read_offset (get_or ws 2 f).now → or_else o expected.Second (λ t. or_else p expected.Satellite (λ s. or_else q expected.Offset (λ x. Ok (Asks (Insert t s x))))) ≡ read_insert (texts ws)
+    insert_read f o p q n h k l = rw (h, k, l) (sym (three ws d e f n))
 
-    pub insert_satellite : (o p : Option ℕ) → length ws ≡ 3 → o ≡ read_number 10 0xFFFF_FFFF (get_or ws 0 d).now → p ≡ read_number 10 0xFFFF_FFFF (get_or ws 1 e).now → or_else o expected.Second (λ t. or_else p expected.Satellite (λ s. or_else (read_offset (get_or ws 2 d).now) expected.Offset (λ x. Ok (Asks (Insert t s x))))) ≡ read_insert (texts ws)
-    insert_satellite o p n h k = insert_offset d o p _ n h k refl
+    pub insert_offset : (f : Bor (List ℕ)) (o p : Option ℕ) (q : Option ℤ) → length ws ≡ 3 → PlainUnsigned 32 (get_or ws 0 d).now o → PlainUnsigned 32 (get_or ws 1 e).now p → PlainSigned (get_or ws 2 f).now q → or_else o expected.Second (λ t. or_else p expected.Satellite (λ s. or_else q expected.Offset (λ x. Ok (Asks (Insert t s x))))) ≡ read_insert (texts ws)
+    insert_offset f o p q n h k l = insert_read f o p q n (plain_32 h) (plain_32 k) (plain_offset l)
 
-  pub reservoir_size : (o : Option ℕ) → length ws ≡ 2 → o ≡ read_number 10 0xFFFF (get_or ws 0 d).now → or_else o expected.Size (λ m. or_else (read_seed (get_or ws 1 d).now) expected.Seed (λ s. Ok (Reservoir m s))) ≡ read_reservoir (texts ws)
+    pub insert_satellite : (o p : Option ℕ) → length ws ≡ 3 → PlainUnsigned 32 (get_or ws 0 d).now o → PlainUnsigned 32 (get_or ws 1 e).now p → or_else o expected.Second (λ t. or_else p expected.Satellite (λ s. or_else (read_offset (get_or ws 2 d).now) expected.Offset (λ x. Ok (Asks (Insert t s x))))) ≡ read_insert (texts ws)
+    insert_satellite o p n h k = insert_read d o p _ n (plain_32 h) (plain_32 k) refl
+
+  pub reservoir_size : (o : Option ℕ) → length ws ≡ 2 → PlainUnsigned 16 (get_or ws 0 d).now o → or_else o expected.Size (λ m. or_else (read_seed (get_or ws 1 d).now) expected.Seed (λ s. Ok (Reservoir m s))) ≡ read_reservoir (texts ws)
   reservoir_size o n h = reservoir_seed d o _ n h refl
 
-  pub insert_second : (o : Option ℕ) → length ws ≡ 3 → o ≡ read_number 10 0xFFFF_FFFF (get_or ws 0 d).now → or_else o expected.Second (λ t. or_else (read_number 10 0xFFFF_FFFF (get_or ws 1 d).now) expected.Satellite (λ s. or_else (read_offset (get_or ws 2 d).now) expected.Offset (λ x. Ok (Asks (Insert t s x))))) ≡ read_insert (texts ws)
-  insert_second o n h = insert_satellite d o _ n h refl
+  pub insert_second : (o : Option ℕ) → length ws ≡ 3 → PlainUnsigned 32 (get_or ws 0 d).now o → or_else o expected.Second (λ t. or_else (read_number 10 0xFFFF_FFFF (get_or ws 1 d).now) expected.Satellite (λ s. or_else (read_offset (get_or ws 2 d).now) expected.Offset (λ x. Ok (Asks (Insert t s x))))) ≡ read_insert (texts ws)
+  insert_second o n h = insert_read d d o _ _ n (plain_32 h) refl refl

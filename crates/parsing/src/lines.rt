@@ -60,7 +60,7 @@ fn report(words: &[&str]) -> Result<Line, Expected>
     Ok(Line::Asks(Command::Report))
 }
 
-// A command, by its name.
+// A command, by its name. A match and no table of closures: the names are few and fixed, and each arm reads as it is.
 fn command(name: &str, words: &[&str]) -> Result<Line, Expected>
     ensures { result ≡ read_command name.now (texts words.now) }
 {

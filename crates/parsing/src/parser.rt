@@ -37,7 +37,8 @@ fn add(heap: Global, scenarios: &mut Vec<Scenario>, text: &str) -> Result<(), Fa
     }
 }
 
-// A failure to read a line, as that of the script.
+// A failure to read a line, as that of the script. A match, and no method of Failure that takes a closure: a public one
+// would have to ask that the closure may be called.
 fn of_line(line: usize, failure: Failure<Expected>) -> Unread
     ensures { result ≡ of_line line failure }
 {

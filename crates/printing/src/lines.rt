@@ -21,7 +21,7 @@ pub fn name(command: Command) -> &'static str
     }
 }
 
-// A record as its three numbers.
+// A record as its three numbers. They are of other types than a refusal's three, so each writes its own.
 #[derive(Clone, Copy)]
 struct OffsetNumbers(Offset);
 
@@ -40,7 +40,7 @@ impl fmt::Display for OffsetNumbers {
     }
 }
 
-// A refusal as its three numbers.
+// A refusal as its three numbers, of other types than a record's.
 #[derive(Clone, Copy)]
 pub struct FaultNumbers(pub Fault);
 
@@ -59,7 +59,8 @@ impl fmt::Display for FaultNumbers {
     }
 }
 
-// A line for each filled slot.
+// A line for each filled slot. A loop of its own, since what is written of a row is made on the way and no slice of it
+// exists.
 #[derive(Drop)]
 struct Rows<'a>(&'a [Row]);
 

@@ -1,10 +1,9 @@
 -- An event record's bytes are its own. Assumes nothing.
-use Rattle.std.specs.Prelude.{◌≡◌, ℕ, zero, suc, ◌+◌, ◌*◌, ◌^◌, ◌<◌, true, List, [], ◌∷◌, None, ◌≢◌, slice_index, slice_index_or, refl}
-use Rattle.std.proofs.Common.{arith, sym, ◌∙◌, ap, lit<}
+use Rattle.std.specs.Prelude.{◌≡◌, ℕ, zero, suc, ◌+◌, ◌^◌, ◌<◌, true, List, None, ◌≢◌, slice_index, slice_index_or, refl}
+use Rattle.std.proofs.Common.{arith, sym, ◌∙◌, ap}
 use Rattle.std.proofs.lemmas.Bool.{eqb-true}
 use Rattle.std.proofs.lemmas.Bool.Decides.{nat_tests}
-use Rattle.std.specs.List.{AllByRecursion}
-use Rattle.std.proofs.lemmas.List.Elements.{All-get_or, All-from_recursion}
+use Rattle.std.proofs.lemmas.Int.{ints}
 use Rattle.records.specs.Bytes.{four_at, Twelve}
 use Rattle.records.specs.Events.{Fields, event_fields, fields_bytes, event_bytes, event_wrong, is_party}
 use Rattle.records.specs.Fields.{is_second}
@@ -12,7 +11,7 @@ use Rattle.records.specs.Happenings.{is_code}
 use Rattle.records.specs.declared.events.Event.{Event}
 use Rattle.records.specs.declared.events.Event.TheVariants.{LockLost, LockGained, Holdover}
 use Rattle.records.specs.FieldLaws.{same_number, second_right, satellite_right, a_second, a_satellite}
-use Rattle.records.specs.Twelves.{in_row, each_right}
+use Rattle.records.specs.Twelves.{four_first, four_back, twelve_of, each_right}
 
 -- two events with the same fields are the same
 same : (r s : Event) → event_fields r ≡ event_fields s → r ≡ s
@@ -33,13 +32,13 @@ in_range (LockGained a b) = (second_right a, refl, satellite_right b)
 in_range (Holdover a) = (second_right a, refl, refl)
 
 fields_small : (x : Fields) → is_second x.0 ≡ true → is_code x.1 ≡ true → is_party x.1 x.2 ≡ true → (x.0 < 2 ^ 32) × (x.1 < 256) × (x.2 < 256)
-fields_small x a b c = (grind (arith, nat_tests), grind (arith, nat_tests), grind (arith, nat_tests))
+fields_small x a b c = (grind (arith, nat_tests, ints), grind (arith, nat_tests, ints), grind (arith, nat_tests, ints))
 
 in_bytes : (r : Event) → ((event_fields r).0 < 2 ^ 32) × ((event_fields r).1 < 256) × ((event_fields r).2 < 256)
 in_bytes r = let h = in_range r in fields_small (event_fields r) h.0 h.1 h.2
 
 second_back : (r : Event) → four_at (event_bytes r) 0 ≡ (event_fields r).0
-second_back r = let h = in_bytes r in omega arith
+second_back r = let h = in_bytes r in four_back (event_fields r).0 h.0
 
 pub own : (r s : Event) → event_bytes r ≡ event_bytes s → r ≡ s
 own r s e =
@@ -54,21 +53,13 @@ right r = let h = in_range r in rw (second_back r, h.0, h.1, h.2) refl
 pub twelve : (r : Event) → Twelve (event_bytes r)
 twelve r =
     let h = in_bytes r in
-    let all : AllByRecursion (λ b. b < 256) (event_bytes r) = grind arith in
-    record { long = refl; small = λ i l. All-get_or (λ b. b < 256) (event_bytes r) i 0 l (All-from_recursion (λ b. b < 256) (event_bytes r) all) }
-
-spelled : (a b c d t o u v w x y z : ℕ) → a < 256 → b < 256 → c < 256 → d < 256 → u + v + w + x + y + z ≡ 0
-    → fields_bytes (a * 16777216 + b * 65536 + c * 256 + d, t, o) ≡ a ∷ b ∷ c ∷ d ∷ t ∷ o ∷ u ∷ v ∷ w ∷ x ∷ y ∷ z ∷ []
-spelled a b c d t o u v w x y z ha hb hc hd gap = grind arith
+    twelve_of (event_bytes r) refl (grind arith)
 
 -- an event whose fields were read from twelve bytes has those bytes
 pub read_back : (bs : List ℕ) → Twelve bs
     → slice_index bs 6 + slice_index bs 7 + slice_index bs 8 + slice_index bs 9 + slice_index bs 10 + slice_index bs 11 ≡ 0 → (r : Event)
     → event_fields r ≡ (four_at bs 0, slice_index bs 4, slice_index bs 5) → event_bytes r ≡ bs
-read_back bs t gap r e =
-    ap fields_bytes e
-    ∙ spelled _ _ _ _ _ _ _ _ _ _ _ _ (t.small 0 (lit< tt)) (t.small 1 (lit< tt)) (t.small 2 (lit< tt)) (t.small 3 (lit< tt)) gap
-    ∙ in_row bs t.long
+read_back bs t gap r e = let row = four_first bs t in ap fields_bytes e ∙ grind arith
 
 no_code : (w : ℕ) → is_code (suc (suc (suc (suc w)))) ≢ true
 no_code w e = grind (arith, nat_tests)

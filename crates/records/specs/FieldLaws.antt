@@ -1,6 +1,6 @@
 -- Fields are their numbers, and the numbers in range are fields. Assumes nothing.
-use Rattle.std.specs.Prelude.{◌≡◌, ℕ, Bool, true, false, cond, ℤ, pos, neg_ℤ, ◌≤ℤ◌, Some, None, Option, FitsSigned, option_map, nat_le, refl}
-use Rattle.std.proofs.Common.{arith, sym, ap, ◌∙◌, negsuc}
+use Rattle.std.specs.Prelude.{◌≡◌, ℕ, Bool, true, false, cond, ℤ, pos, neg_ℤ, ◌≤ℤ◌, Some, None, Option, FitsSigned, option_map, refl}
+use Rattle.std.proofs.Common.{arith, ap, negsuc}
 use Rattle.std.proofs.Props.{props}
 use Rattle.std.specs.Int.{w32}
 use mathlib.Core.HLevel.{is_prop→PathP}
@@ -43,22 +43,18 @@ pub a_field : {N : Type 0} {below above : ℕ} {w : Ghosts N} (n : N) → is_wit
 a_field {N} {below} {above} {w} n e =
     (record { number = n; low = low_range below above (w.whole n) e; high = high_range below above (w.whole n) e }, refl)
 
--- a range that begins at 0 is tested by its greatest number alone
-from_zero : (above n : ℕ) → is_within 0 above (pos n) ≡ nat_le n above
-from_zero above n = grind (arith, nat_tests, ints)
-
 -- the same of seconds and satellites
 pub second_right : (s : InRange ℕ 0 604799 u32.ghosts) → is_second (second_of s) ≡ true
-second_right s = sym (from_zero 604799 (second_of s)) ∙ number_right s
+second_right = number_right
 
 pub satellite_right : (s : InRange ℕ 0 31 u8.ghosts) → is_satellite (satellite_of s) ≡ true
-satellite_right s = sym (from_zero 31 (satellite_of s)) ∙ number_right s
+satellite_right = number_right
 
 pub a_second : (n : ℕ) → is_second n ≡ true → (s : InRange ℕ 0 604799 u32.ghosts) × (second_of s ≡ n)
-a_second n e = a_field n (from_zero 604799 n ∙ e)
+a_second = a_field
 
 pub a_satellite : (n : ℕ) → is_satellite n ≡ true → (s : InRange ℕ 0 31 u8.ghosts) × (satellite_of s ≡ n)
-a_satellite n e = a_field n (from_zero 31 n ∙ e)
+a_satellite = a_field
 
 -- nanoseconds fit 32 bits
 fits_32 : (z : ℤ) → neg_ℤ (pos 500000000) ≤ℤ z → z ≤ℤ pos 500000000 → FitsSigned w32 z

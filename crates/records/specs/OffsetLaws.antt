@@ -1,26 +1,24 @@
 -- An offset record's bytes are its own. Assumes nothing.
-use Rattle.std.specs.Prelude.{◌≡◌, ℕ, ◌+◌, ◌*◌, ◌<◌, List, [], ◌∷◌, None, slice_index, slice_index_or, refl}
+use Rattle.std.specs.Prelude.{◌≡◌, ℕ, ◌+◌, ◌^◌, ◌<◌, List, [], None, slice_index, slice_index_or, refl}
 use Rattle.std.proofs.Common.{arith, sym, ◌∙◌, ap, lit<, to_z, of_z}
 use Rattle.std.specs.Int.{w32}
 use Rattle.std.proofs.lemmas.Bool.{eqb-true}
-use Rattle.std.specs.List.{AllByRecursion}
-use Rattle.std.proofs.lemmas.List.Elements.{All-get_or, All-from_recursion}
 use Rattle.std.proofs.lemmas.Int.{ints, to_z-of_z, of_z-to_z}
 use Rattle.records.specs.Bytes.{four_at, Twelve}
 use Rattle.records.specs.Fields.{second_of, satellite_of, nanoseconds_of}
 use Rattle.records.specs.Offsets.{offset_fields, fields_bytes, offset_bytes, offset_wrong}
 use Rattle.records.specs.declared.offsets.Offset.{Offset}
 use Rattle.records.specs.FieldLaws.{same_number, number_right, second_right, satellite_right, a_field, a_second, a_satellite, nanoseconds_fit}
-use Rattle.records.specs.Twelves.{in_row, four_of, each_right}
+use Rattle.records.specs.Twelves.{four_first, four_back, twelve_of, four_of, four_lt, each_right}
 
 -- the numbers that stand in a record's bytes
 second_back : (r : Offset) → four_at (offset_bytes r) 0 ≡ second_of r.second
-second_back r = let h = r.second.high in omega (arith, ints)
+second_back r = let h = r.second.high in four_back (second_of r.second) (omega (arith, ints))
 
 nanoseconds_back : (r : Offset) → to_z w32 (four_at (offset_bytes r) 8) ≡ nanoseconds_of r.nanoseconds
 nanoseconds_back r =
     let l = r.nanoseconds.low in let h = r.nanoseconds.high in
-    let bits : four_at (offset_bytes r) 8 ≡ of_z w32 (nanoseconds_of r.nanoseconds) = omega (arith, ints) in
+    let bits = four_back (of_z w32 (nanoseconds_of r.nanoseconds)) (omega (arith, ints)) in
     ap (to_z w32) bits ∙ to_z-of_z w32 (nanoseconds_of r.nanoseconds) (nanoseconds_fit r.nanoseconds)
 
 pub own : (r s : Offset) → offset_bytes r ≡ offset_bytes s → r ≡ s
@@ -37,23 +35,16 @@ right r =
 pub twelve : (r : Offset) → Twelve (offset_bytes r)
 twelve r =
     let h : satellite_of r.satellite < 256 = let l = r.satellite.high in omega (arith, ints) in
-    let all : AllByRecursion (λ b. b < 256) (offset_bytes r) = grind arith in
-    record { long = refl; small = λ i l. All-get_or (λ b. b < 256) (offset_bytes r) i 0 l (All-from_recursion (λ b. b < 256) (offset_bytes r) all) }
-
-spelled : (a b c d t x y z e f g h : ℕ) → a < 256 → b < 256 → c < 256 → d < 256 → e < 256 → f < 256 → g < 256 → h < 256 → x + y + z ≡ 0
-    → fields_bytes (a * 16777216 + b * 65536 + c * 256 + d, t, to_z w32 (e * 16777216 + f * 65536 + g * 256 + h))
-    ≡ a ∷ b ∷ c ∷ d ∷ t ∷ x ∷ y ∷ z ∷ e ∷ f ∷ g ∷ h ∷ []
-spelled a b c d t x y z e f g h ha hb hc hd he hf hg hh gap =
-    rw (of_z-to_z w32 (e * 16777216 + f * 65536 + g * 256 + h) (omega arith), four_of e f g h he hf hg hh [], four_of a b c d ha hb hc hd _) (grind arith)
+    twelve_of (offset_bytes r) refl (grind arith)
 
 -- a record whose fields were read from twelve bytes has those bytes
 pub read_back : (bs : List ℕ) → Twelve bs → slice_index bs 5 + slice_index bs 6 + slice_index bs 7 ≡ 0 → (r : Offset)
     → offset_fields r ≡ (four_at bs 0, slice_index bs 4, to_z w32 (four_at bs 8)) → offset_bytes r ≡ bs
 read_back bs t gap r e =
-    ap fields_bytes e
-    ∙ spelled _ _ _ _ _ _ _ _ _ _ _ _ (t.small 0 (lit< tt)) (t.small 1 (lit< tt)) (t.small 2 (lit< tt)) (t.small 3 (lit< tt))
-    (t.small 8 (lit< tt)) (t.small 9 (lit< tt)) (t.small 10 (lit< tt)) (t.small 11 (lit< tt)) gap
-    ∙ in_row bs t.long
+    let small : four_at bs 8 < 2 ^ 32 = four_lt _ _ _ _ (t.small 8 (lit< tt)) (t.small 9 (lit< tt)) (t.small 10 (lit< tt)) (t.small 11 (lit< tt)) in
+    let last = four_of _ _ _ _ (t.small 8 (lit< tt)) (t.small 9 (lit< tt)) (t.small 10 (lit< tt)) (t.small 11 (lit< tt)) [] in
+    let row = four_first bs t in
+    ap fields_bytes e ∙ rw (of_z-to_z w32 (four_at bs 8) small, last) (grind arith)
 
 pub met : (bs : List ℕ) → Twelve bs → offset_wrong bs ≡ None → (r : Offset) × (offset_bytes r ≡ bs)
 met bs t none =

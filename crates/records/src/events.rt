@@ -24,7 +24,7 @@ pub enum Event {
 
 impl Event {
     // The record of this happening with these fields, or the refusal of the first that is out of its range. A
-    // holdover's satellite is 0.
+    // holdover's satellite is 0, as on the card, so that one equation serves all three.
     pub fn new(happening: Happening, second: u32, satellite: u32) -> Result<Event, Fault>
         ensures { shown_as event_fields result ≡ event_of (second, happening_code happening, satellite) }
     {
@@ -50,25 +50,6 @@ impl Event {
             Happening::Holdover => Err(wrong),
         }
     }
-
-    // The second, what happened, and the satellite or 0.
-    fn fields(self) -> (u32, Happening, u8)
-        ensures { (result.0, happening_code result.1, result.2) ≡ event_fields self }
-    {
-        match self {
-            Event::LockLost(second, satellite) => (
-                second.value(),
-                Happening::LockLost,
-                satellite.value(),
-            ),
-            Event::LockGained(second, satellite) => (
-                second.value(),
-                Happening::LockGained,
-                satellite.value(),
-            ),
-            Event::Holdover(second) => (second.value(), Happening::Holdover, 0),
-        }
-    }
 }
 
 impl RecordKind for Event {
@@ -91,8 +72,16 @@ impl RecordKind for Event {
     const CODE: u8 = 2;
 
     fn encode(&self) -> [u8; RECORD_BYTES] {
-        let (second, happening, satellite) = self.fields();
-        let [a, b, c, d] = second.to_be_bytes();
+        let (second, happening, satellite) = match *self {
+            Event::LockLost(second, satellite) => (second, Happening::LockLost, satellite.value()),
+            Event::LockGained(second, satellite) => (
+                second,
+                Happening::LockGained,
+                satellite.value(),
+            ),
+            Event::Holdover(second) => (second, Happening::Holdover, 0),
+        };
+        let [a, b, c, d] = second.value().to_be_bytes();
         let what = u8::from(happening);
         [a, b, c, d, what, satellite, 0, 0, 0, 0, 0, 0]
     }

@@ -14,13 +14,14 @@ pub const LAST_SATELLITE: u32 = 31;
 pub const MOST_NANOSECONDS: u32 = 500_000_000;
 
 // A number that is at most this far below 0, and at most this far above it.
-#[derive(PartialEq, Eq, Debug)]
+#[derive(Copy, PartialEq, Eq, Debug)]
 pub struct InRange<N: Whole, const BELOW: u32, const ABOVE: u32> {
     number: N,
     ghost low: { neg_ℤ (pos BELOW) ≤ℤ N.whole number },
     ghost high: { N.whole number ≤ℤ pos ABOVE },
 }
 
+// By hand: of a derived Clone the check says, "`Clone` cannot be derived for a struct with a ghost field".
 impl<N: Whole, const BELOW: u32, const ABOVE: u32> Clone for InRange<N, BELOW, ABOVE> {
     ghost is_clone = { λ x y. y ≡ x };
 
@@ -30,8 +31,6 @@ impl<N: Whole, const BELOW: u32, const ABOVE: u32> Clone for InRange<N, BELOW, A
         Ok(*self)
     }
 }
-
-impl<N: Whole, const BELOW: u32, const ABOVE: u32> Copy for InRange<N, BELOW, ABOVE> {}
 
 // A second of the week.
 pub type Second = InRange<u32, 0, LAST_SECOND>;

@@ -9,7 +9,7 @@ pub const RECORD_BYTES: usize = 12;
 
 // A kind of record. Whatever stores records knows their kind by this trait alone.
 pub trait RecordKind: Copy + Drop {
-    // The code by which a card names the kind.
+    // The code by which a card names the kind: a number and no enum, since kinds are open and an enum would close them.
     ghost CODE: { ℕ };
 
     const CODE: u8;
@@ -20,6 +20,7 @@ pub trait RecordKind: Copy + Drop {
     // Of twelve bytes, the first of the first wrong field; none if they are a record's.
     ghost wrong: { List ℕ → Option ℕ };
 
+    // Not From and TryFrom, whose contracts each impl states for itself: these are the trait's, so every kind keeps them.
     fn encode(&self) -> [u8; RECORD_BYTES]
         ensures { result ≡ bytes self.now };
 

@@ -19,7 +19,8 @@ pub struct Offset {
 }
 
 impl Offset {
-    // The record with these fields, or the refusal of the first that is out of its range.
+    // The record with these fields, or the refusal of the first that is out of its range. Three plain numbers: they come
+    // so from a command and travel no further.
     pub fn new(second: u32, satellite: u32, nanoseconds: i32) -> Result<Offset, Fault>
         ensures { shown_as offset_fields result ≡ offset_of (second, satellite, nanoseconds) }
     {

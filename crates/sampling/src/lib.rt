@@ -30,7 +30,8 @@ fn within(size: u16, slot: u64) -> Option<u16>
     u16::try_from(slot).ok().filter(|slot| *slot < size)
 }
 
-// The slot of record k in a sample of this size, if it has one. Records are numbered from 1.
+// The slot of record k in a sample of this size, if it has one. Records are numbered from 1. The seed and the size stay
+// two numbers: a struct of them would be made for a reservoir and taken apart here, and say no more.
 #[tactic(auto, using(crate::proofs::SlotLaws::slot_none, crate::proofs::SlotLaws::slot_from_one))]
 pub fn slot_of(seed: u64, size: u16, k: u32) -> Option<u16>
     ensures value { result ≡ slot_of seed size k }

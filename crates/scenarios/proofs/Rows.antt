@@ -32,9 +32,10 @@ at_slot seed size xs i s k h =
     rw (lt-ltb i size h) (row_shown i (sample_at seed size k.records i) (refusal EmptySlot i))
     ∙ ap (row i) (sym (sample_map offset_fields seed size k.records i) ∙ ap (λ ys. sample_at seed size ys i) k.fields_are)
 
-range_more : (a n : ℕ) → range_with_len a (suc n) ≡ range_with_len a n ++ (a + n) ∷ []
-range_more a zero = ap (λ m. m ∷ []) (omega arith)
-range_more a (suc n) = ap (λ l. a ∷ l) (range_more (a + 1) n ∙ ap (λ m. range_with_len (a + 1) n ++ m ∷ []) (omega arith))
+-- a longer range ends in one number more
+range_more : (a n m : ℕ) → a + n ≡ m → range_with_len a (suc n) ≡ range_with_len a n ++ m ∷ []
+range_more a zero m e = let same : a ≡ m = omega arith in ap (λ k. k ∷ []) same
+range_more a (suc n) m e = ap (λ l. a ∷ l) (range_more (a + 1) n m (omega arith))
 
 -- the rows made of the answers of the slots below n
 pub rows_answered : (seed size : ℕ) (xs : List Fields) (s : Reservoir Offset) (k : KeepsFields seed size xs s) (n : ℕ) → n ≤ size
@@ -42,7 +43,7 @@ pub rows_answered : (seed size : ℕ) (xs : List Fields) (s : Reservoir Offset) 
 rows_answered seed size xs s k zero h = refl
 rows_answered seed size xs s k (suc n) h =
     let made : ℕ → Option Row = λ i. row_answered i (slot_answer seed size k.records i) in
-    ap (λ l. map row_of (filter_map made l)) (range_more 0 n ∙ ap (λ m. range_with_len 0 n ++ m ∷ []) (omega arith))
+    ap (λ l. map row_of (filter_map made l)) (range_more 0 n n (omega arith))
     ∙ ap (map row_of) (filter_map-append made (range_with_len 0 n) (n ∷ []))
     ∙ map-append row_of (filter_map made (range_with_len 0 n)) (cons_option (made n) [])
     ∙ ap (λ l. l ++ map row_of (cons_option (made n) [])) (rows_answered seed size xs s k n (omega arith))

@@ -8,7 +8,8 @@ use reservoir::Reservoir;
 use script::Command;
 use std::alloc::Global;
 
-// Works the commands of a scenario in order, and answers each by the sample of just the records accepted before it.
+// Works the commands of a scenario in order, and answers each by the sample of just the records accepted before it. It
+// takes no whole Scenario, whose commands are a Vec: a caller may have them in any slice.
 pub fn work(
     heap: Global,
     size: u16,

@@ -1,3 +1,4 @@
 pub mod Admitted
+pub mod Places
 pub mod Sameness
 pub mod Soundness

@@ -14,7 +14,7 @@ pub record Meaning : Type 1 where
   pub stands : ℕ → Content → Type 0
   pub lasts : Bool
 
--- what holds in each state that arises, for blocks of `unit` bytes and at most `limit` of them
+-- what holds of every value of a store's type, for blocks of `unit` bytes and at most `limit` of them
 pub record Lawful (unit limit : ℕ) (m : Meaning) : Type 0 where
   pub limited : m.size ≤ limit
   -- what may stand is never an empty set

@@ -21,7 +21,7 @@ pub fn admit(own: Layer, size: u32, on: bool, block: u32, length: usize) -> Resu
     ensures { result ≡ admission own size on block length }
 {
     if block >= size {
-        return Err(own.fault(Reason::NoSuchBlock, block as u64));
+        return Err(own.fault(Reason::NoSuchBlock, u64::from(block)));
     }
     if length != BLOCK_BYTES {
         return Err(own.fault(Reason::WrongLength, length as u64));

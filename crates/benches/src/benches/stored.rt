@@ -2,11 +2,12 @@ ghost use Rattle.std.specs.Prelude.{◌≡◌, false};
 ghost use Rattle.faults.specs.declared.faults.Layer.TheVariants.{Device};
 ghost use Rattle.stores.specs.Meanings.{Steadily};
 ghost use Rattle.stores.specs.Outcomes.{ReadOutcome, WriteOutcome, FlushOutcome, RestartOutcome};
-ghost use Rattle.benches.specs.Benches.{view_of, meaning_of, written, flushed, awoken, Made};
+ghost use Rattle.benches.specs.Benches.{meaning_of, written, flushed, awoken, Made};
 ghost use Rattle.benches.specs.Lawful.{bench_lawful};
 
 use crate::benches::{Bench, Given};
 use crate::disk::Disk;
+use crate::held::Held;
 use crate::supply::Supply;
 use faults::{Fault, Layer, Reason};
 use std::alloc::Global;
@@ -37,15 +38,17 @@ impl Bench {
         }
     }
 
-    // The memory, with what is settled in it. Held writes are lost, as in a cut that keeps none of them.
+    // The memory, with what is settled in it. Held writes are lost, as in a cut that keeps none of them. A method as
+    // std's `into_bytes`, and no `From`: the name says what is left.
     pub fn into_bytes(self) -> Vec<u8>
-        ensures { result ≡ self.disk.bytes }
+        ensures { result.items ≡ self.mem }
     {
         let Bench { disk, .. } = self;
         disk.into_bytes()
     }
 }
 
+// The trait's clauses stand again in each call, since a call that promises more has to repeat them.
 impl Store for Bench {
     ghost meaning = { meaning_of };
 
@@ -55,7 +58,7 @@ impl Store for Bench {
 
     ghost steady = { false };
 
-    ghost lawful = { λ s. bench_lawful s.supply.power s.disk.bytes.items s.disk.held.items s.disk.inside };
+    ghost lawful = { λ s. bench_lawful s.power s.mem s.held };
 
     fn size(&self) -> u32 {
         self.disk.size()
@@ -64,11 +67,11 @@ impl Store for Bench {
     fn read(&mut self, block: u32, buf: &mut [u8]) -> Result<(), Fault>
         ensures outcome { ReadOutcome 504 Device Device (meaning_of self.old) (meaning_of self.new) block buf.old buf.new result }
         ensures sound { Steadily false (meaning_of self.old) (meaning_of self.new) }
-        ensures after { view_of self.new ≡ view_of self.old }
+        ensures after { self.new ≡ self.old }
     {
         let on = self.supply.is_on();
         admit(Layer::Device, self.size(), on, block, buf.len())?;
-        let torn = Layer::Device.fault(Reason::Torn, block as u64);
+        let torn = Layer::Device.fault(Reason::Torn, u64::from(block));
         let bytes = self.disk.look(block).ok_or(torn)?;
         buf.copy_from_slice(bytes);
         Ok(())
@@ -77,19 +80,19 @@ impl Store for Bench {
     fn write(&mut self, block: u32, bytes: &[u8]) -> Result<(), Fault>
         ensures outcome { WriteOutcome 504 Device Device (meaning_of self.old) (meaning_of self.new) block bytes.now result }
         ensures sound { Steadily false (meaning_of self.old) (meaning_of self.new) }
-        ensures after { view_of self.new ≡ written (view_of self.old) block bytes.now }
+        ensures after { self.new ≡ written self.old block bytes.now }
     {
         let on = self.supply.is_on();
         admit(Layer::Device, self.size(), on, block, bytes.len())?;
         let bytes = <[u8; BLOCK_BYTES]>::try_from(bytes).unwrap();
-        self.disk.hold(block, bytes);
+        self.disk.hold(Held { block, bytes });
         self.supply.spend()
     }
 
     fn flush(&mut self) -> Result<(), Fault>
         ensures outcome { FlushOutcome Device Device (meaning_of self.old) (meaning_of self.new) result }
         ensures sound { Steadily false (meaning_of self.old) (meaning_of self.new) }
-        ensures after { view_of self.new ≡ flushed (view_of self.old) }
+        ensures after { self.new ≡ flushed self.old }
     {
         self.supply.spend()?;
         self.disk.settle();
@@ -99,7 +102,7 @@ impl Store for Bench {
     fn restart(&mut self) -> Result<(), Fault>
         ensures outcome { RestartOutcome Device (meaning_of self.old) (meaning_of self.new) result }
         ensures sound { Steadily false (meaning_of self.old) (meaning_of self.new) }
-        ensures after { view_of self.new ≡ awoken (view_of self.old) }
+        ensures after { self.new ≡ awoken self.old }
     {
         self.disk.restart(&mut self.choices);
         self.supply.start();

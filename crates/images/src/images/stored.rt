@@ -17,7 +17,7 @@ impl Image {
         Image { bytes, on: false }
     }
 
-    // The memory, with what was written in it.
+    // The memory, with what was written in it. A method as std's `into_bytes`, and no `From`: the name says what is left.
     pub fn into_bytes(self) -> Vec<u8>
         ensures { result ≡ self.bytes }
     {
@@ -26,6 +26,7 @@ impl Image {
     }
 }
 
+// The trait's clauses stand again in each call, since a call that promises more has to repeat them.
 impl Store for Image {
     ghost meaning = { meaning_of };
 
@@ -37,6 +38,7 @@ impl Store for Image {
 
     ghost lawful = { λ s. image_lawful s.on s.bytes.items };
 
+    // As a bench's disk has it, in blocks of another span: shared, this line would need an answer for a span of zero.
     fn size(&self) -> u32 {
         (self.bytes.len() / BLOCK_BYTES).min(BLOCK_LIMIT as usize) as u32
     }

@@ -16,7 +16,7 @@ impl<S: Store> Mirror<S> {
         Mirror { below, on: false }
     }
 
-    // The store below, as the last call left it.
+    // The store below, as the last call left it. A method as std's `into_inner`, of which no From can give every S.
     pub fn into_below(self) -> S
         ensures { result ≡ self.below }
     {
@@ -25,6 +25,8 @@ impl<S: Store> Mirror<S> {
     }
 }
 
+// Each call turns the mirror off, works below with `?`, and turns it on. No function does that around a closure: it would
+// have to say of any work what it leaves below, which is longer than the two lines.
 impl<S: Store> Store for Mirror<S> {
     ghost meaning = { λ s. mirror_meaning s.on (S.Store.meaning s.below) };
 
@@ -47,7 +49,7 @@ impl<S: Store> Store for Mirror<S> {
         self.on = false;
         let found = probe_both(&mut self.below, block, half + block)?;
         self.on = true;
-        buf.copy_from_slice(&found.ok_or(Layer::Mirror.fault(Reason::Torn, block as u64))?);
+        buf.copy_from_slice(&found.ok_or(Layer::Mirror.fault(Reason::Torn, u64::from(block)))?);
         Ok(())
     }
 

@@ -6,7 +6,8 @@ use crate::fields::{InRange, Satellite};
 use crate::wholes::Whole;
 
 impl<N: Whole, const BELOW: u32, const ABOVE: u32> InRange<N, BELOW, ABOVE> {
-    // The field with this number, if it is in the range.
+    // The field with this number, if it is in the range. An Option and no TryFrom: a number out of range has no more to
+    // say, and each caller has a reason of its own for it (`ok_or`).
     pub(crate) fn new(number: N) -> Option<Self>
         ensures { option_map number_of result ≡ number_in N.whole BELOW ABOVE number }
     {
@@ -17,6 +18,7 @@ impl<N: Whole, const BELOW: u32, const ABOVE: u32> InRange<N, BELOW, ABOVE> {
         Some(InRange { number })
     }
 
+    // The number itself. A method and no From, of which no impl can give every N.
     pub fn value(self) -> N
         ensures { result ≡ number_of self }
     {

@@ -16,7 +16,7 @@ fn place<K: RecordKind>(rows: &mut [Option<K>; ROWS], slot: Option<u16>, kept: K
     ensures { rows.new ≡ placed rows.old slot kept }
 {
     if let Some(i) = slot {
-        rows[i as usize] = Some(kept);
+        rows[usize::from(i)] = Some(kept);
     }
 }
 
@@ -61,6 +61,6 @@ impl<K: RecordKind> Reservoir<K> {
         if i >= self.size {
             return Err(Sampler.fault(NoSuchSlot, u64::from(i)));
         }
-        self.rows[i as usize].ok_or(Sampler.fault(EmptySlot, u64::from(i)))
+        self.rows[usize::from(i)].ok_or(Sampler.fault(EmptySlot, u64::from(i)))
     }
 }

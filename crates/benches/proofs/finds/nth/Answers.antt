@@ -3,7 +3,7 @@ use Rattle.std.proofs.lemmas.Iterator.{YieldsList-from_slice}
 use Rattle.std.proofs.lemmas.Iterator.Consumers.{nth_from_yields_List, YieldsList-from_filter, YieldsList-at}
 use Rattle.benches.specs.Lawful.{Of}
 use Rattle.benches.proofs.Looks.{nth_is}
-use Rattle.benches.proofs.held.nth.Goals as goal
+use Rattle.benches.proofs.finds.nth.Goals as goal
 
 pub returns : goal.returns
 returns c =
