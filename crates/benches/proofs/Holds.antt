@@ -12,7 +12,7 @@ use Rattle.benches.specs.declared.held.Held.{Held}
 use Rattle.benches.specs.declared.power.Power.{Power}
 use Rattle.benches.specs.Held.{blocks_in, held_if, held_of, room_mem, room_held}
 use Rattle.benches.specs.Supplies.{is_on, spent}
-use Rattle.benches.specs.Views.{View}
+use Rattle.benches.specs.Views.{View, Allocation}
 use Rattle.benches.specs.Benches.{holding, written}
 
 pub same_held : (g h : Held) → g.block ≡ h.block → g.bytes ≡ h.bytes → g ≡ h
@@ -38,8 +38,8 @@ written_is v h a =
     cond-true _ (holding v (held_of h.block h.bytes)) v test ∙ ap (holding v) (held_of_is h)
 
 -- and what a bench is then
-pub held_view : (v : View) (h : Held) (mem : List ℕ) (held : List Held) (fuses : List ℕ) (power : Power) → ◌≡◌ {A = Answer} (Ok tt) (admission Device (blocks_in (length v.mem)) (is_on v.power) h.block (length h.bytes)) → mem ≡ room_mem v.mem v.held → held ≡ room_held v.held ++ h ∷ [] → fuses ≡ v.fuses → power ≡ spent v.power → ◌≡◌ {A = View} (record { mem = mem; held = held; fuses = fuses; power = power; left = v.left }) (written v h.block h.bytes)
-held_view v h mem held fuses power a m k f p =
-    let parts : ◌≡◌ {A = View} (record { mem = mem; held = held; fuses = fuses; power = power; left = v.left }) (holding v (Some h)) =
-    λ i. record { mem = m i; held = k i; fuses = f i; power = p i; left = v.left } in
+pub held_view : (v : View) (h : Held) (mem : List ℕ) (allocation : Allocation) (held : List Held) (fuses : List ℕ) (power : Power) → ◌≡◌ {A = Answer} (Ok tt) (admission Device (blocks_in (length v.mem)) (is_on v.power) h.block (length h.bytes)) → mem ≡ room_mem v.mem v.held → allocation ≡ v.allocation → held ≡ room_held v.held ++ h ∷ [] → fuses ≡ v.fuses → power ≡ spent v.power → ◌≡◌ {A = View} (record { mem = mem; allocation = allocation; held = held; fuses = fuses; power = power; left = v.left }) (written v h.block h.bytes)
+held_view v h mem allocation held fuses power a m o k f p =
+    let parts : ◌≡◌ {A = View} (record { mem = mem; allocation = allocation; held = held; fuses = fuses; power = power; left = v.left }) (holding v (Some h)) =
+    λ i. record { mem = m i; allocation = o i; held = k i; fuses = f i; power = p i; left = v.left } in
     parts ∙ sym (written_is v h a)

@@ -4,7 +4,7 @@ use Rattle.stores.specs.Meanings.{Meaning}
 use Rattle.benches.specs.declared.held.Held.{Held}
 use Rattle.benches.specs.declared.power.Power.TheVariants.{Off}
 use Rattle.benches.specs.declared.benches.Bench.{Bench}
-use Rattle.benches.specs.Views.{View}
+use Rattle.benches.specs.Views.{View, allocation_of}
 use Rattle.benches.specs.declared.benches.Given.{Given}
 use Rattle.benches.specs.Held.{blocks_in, held_of, bench_meaning, settled_all, room_mem, room_held}
 use Rattle.benches.specs.Supplies.{is_on, started, spent, goes}
@@ -20,6 +20,7 @@ holding v None = v
 holding v (Some h) =
     record {
       mem = room_mem v.mem v.held;
+      allocation = v.allocation;
       held = room_held v.held ++ h ∷ [];
       fuses = v.fuses;
       power = spent v.power;
@@ -35,8 +36,8 @@ abbrev pub flushed : View → View
 flushed v =
     cond (is_on v.power)
     (cond (goes v.power)
-    (record { mem = settled_all v.mem v.held; held = []; fuses = v.fuses; power = spent v.power; left = v.left })
-    (record { mem = v.mem; held = v.held; fuses = v.fuses; power = spent v.power; left = v.left }))
+    (record { mem = settled_all v.mem v.held; allocation = v.allocation; held = []; fuses = v.fuses; power = spent v.power; left = v.left })
+    (record { mem = v.mem; allocation = v.allocation; held = v.held; fuses = v.fuses; power = spent v.power; left = v.left }))
     v
 
 -- a restart decides what stands at each block, and lights the next fuse
@@ -44,6 +45,7 @@ abbrev pub awoken : View → View
 awoken v =
     record {
       mem = (passed v.held (record { mem = v.mem; left = v.left }) (blocks_in (length v.mem))).mem;
+      allocation = v.allocation;
       held = [];
       fuses = drop 1 v.fuses;
       power = started v.fuses;
@@ -51,17 +53,18 @@ awoken v =
     }
 
 -- a new bench: the memory as it was given, off, with nothing held
-abbrev pub fresh : List ℕ → List ℕ → List ℕ → View
-fresh bytes fuses choices =
+abbrev pub fresh : Given → View
+fresh g =
     record {
-      mem = bytes;
+      mem = vec_items g.bytes;
+      allocation = allocation_of g.bytes;
       held = [];
-      fuses = fuses;
+      fuses = vec_items g.fuses;
       power = Off;
-      left = choices;
+      left = vec_items g.choices;
     }
 
 -- a bench of what was given, or that back
 abbrev pub Made : Given → Result Bench Given → Type 0
-Made g (Ok b) = b ≡ fresh (vec_items g.bytes) (vec_items g.fuses) (vec_items g.choices)
+Made g (Ok b) = b ≡ fresh g
 Made g (Err back) = back ≡ g

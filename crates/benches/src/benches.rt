@@ -25,9 +25,9 @@ pub struct Bench {
 
 // What a caller sees: no `Vec` and no queue, but what stands in them.
 impl Model for Bench {
-    ghost use Rattle.benches.specs.Views.{View};
+    ghost use Rattle.benches.specs.Views.{View, allocation_of};
 
     ghost Value = { View };
 
-    ghost view = { λ s. record { mem = s.disk.bytes.items; held = s.disk.held.items; fuses = s.supply.fuses.items; power = s.supply.power; left = s.choices.items } };
+    ghost view = { λ s. record { mem = s.disk.bytes.items; allocation = allocation_of s.disk.bytes; held = s.disk.held.items; fuses = s.supply.fuses.items; power = s.supply.power; left = s.choices.items } };
 }

@@ -1,6 +1,7 @@
 ghost use Rattle.std.specs.Prelude.{◌≡◌, ◌+◌, ◌*◌, ◌<◌, ◌≤◌, [], ◌∷◌, ◌++◌, length, vec_len, vec_capacity, IfSome, MatchResult};
 ghost use Rattle.std.specs.Option.{option_copied, option_map};
 ghost use Rattle.benches.specs.Held.{blocks_in, content, shown, settled, writes_of, latest, settled_all, room_mem, room_held, Inside};
+ghost use Rattle.benches.specs.Views.{allocation_of};
 ghost use Rattle.benches.specs.Passes.{Pass, settled_or_tore, chosen, left_after, passed};
 
 use crate::finds::{count, last, nth};
@@ -17,7 +18,8 @@ const HELD_LIMIT: usize = 16;
 
 // Settled blocks in the caller's memory, and the writes that are not settled in it yet. These are in a `Vec` with room
 // from the start: a vector of fixed room, as `arrayvec` has one, would be one more crate to trust.
-// That a block lies in the memory is asked in each call below: no type of the block alone can keep a fact of this memory.
+// That a block lies in the memory is asked where a block is given: no type of the block alone can keep a fact of this
+// memory.
 #[derive(Drop)]
 pub struct Disk {
     bytes: Vec<u8>,
@@ -42,7 +44,7 @@ fn settle_all(mem: &mut [u8], held: &[Held])
     requires { Inside (length mem.old) held.now }
     ensures { mem.new ≡ settled_all mem.old held.now }
 {
-    for h in held { // h up to the last, held[held.len() - 1]
+    for h in held {
         settle(mem, h.block, &h.bytes);
     }
 }
@@ -69,7 +71,7 @@ impl Disk {
         }
     }
 
-    // The memory, with what is settled in it. A method as std's `into_bytes`, and no `From`: the name says what is left.
+    // The memory, with what is settled in it. A method as std's `into_bytes`, and no From: the name says what is left.
     pub(crate) fn into_bytes(self) -> Vec<u8>
         ensures { result ≡ self.bytes }
     {
@@ -105,6 +107,7 @@ impl Disk {
         ensures memory { self.new.bytes.items ≡ settled_all self.old.bytes.items self.old.held.items }
         ensures held { self.new.held.items ≡ [] }
         ensures long { length self.new.bytes.items ≡ length self.old.bytes.items }
+        ensures allocation { allocation_of self.new.bytes ≡ allocation_of self.old.bytes }
     {
         settle_all(&mut self.bytes, &self.held);
         self.held.clear();
@@ -116,6 +119,7 @@ impl Disk {
         ensures memory { self.new.bytes.items ≡ room_mem self.old.bytes.items self.old.held.items }
         ensures held { self.new.held.items ≡ room_held self.old.held.items ++ write ∷ [] }
         ensures long { length self.new.bytes.items ≡ length self.old.bytes.items }
+        ensures allocation { allocation_of self.new.bytes ≡ allocation_of self.old.bytes }
     {
         if self.held.len() >= HELD_LIMIT {
             self.settle();
@@ -123,9 +127,9 @@ impl Disk {
         self.held.push_reserved(write);
     }
 
-    // Which held write of a block is kept, from 0: none where what is settled stays, and past the last the block is torn.
-    // If a write of it is held, the next choice decides. It gives a number and no write: torn counts as one past the held
-    // writes, and `nth` has none there.
+    // Which held write of a block is kept, from 0: none where what is settled stays, and past the last the block is
+    // torn. If a write of it is held, the next choice decides. It gives a number and no write: torn counts as one past
+    // the held writes, and `nth` has none there.
     fn chosen(&self, block: u32, choices: &mut VecDeque<u8>) -> Option<usize>
         ensures number { result ≡ chosen (length (writes_of self.now.held.items block)) choices.old.items }
         ensures left { choices.new.items ≡ left_after (length (writes_of self.now.held.items block)) choices.old.items }
@@ -142,6 +146,7 @@ impl Disk {
     pub(crate) fn restart(&mut self, choices: &mut VecDeque<u8>)
         ensures pass { ◌≡◌ {A = Pass} (record { mem = self.new.bytes.items; left = choices.new.items }) (passed self.old.held.items (record { mem = self.old.bytes.items; left = choices.old.items }) (blocks_in (length self.old.bytes.items))) }
         ensures held { self.new.held.items ≡ [] }
+        ensures allocation { allocation_of self.new.bytes ≡ allocation_of self.old.bytes }
     {
         for b in 0..self.size() { // b up to size - 1
             if let Some(number) = self.chosen(b, choices) {

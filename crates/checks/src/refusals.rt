@@ -17,7 +17,7 @@ fn fault_reads_with_number_layer_and_place(rt: HostRuntime) -> Result<(), Fail> 
     Ok(())
 }
 
-// The place of a refusal of the record layer, with its number as the format has it; none where a record was read.
+// A refusal's number and place, since the numbers of the format are what is tested; none where a record was read.
 fn refused<K>(read: Result<K, Fault>) -> Option<(u8, u64)>
 where
     K: RecordKind,

@@ -8,8 +8,8 @@ ghost use Rattle.failures.specs.declared.Failure.TheVariants.{Memory};
 use std::alloc::{AllocError, AllocFailed};
 use std::fmt;
 
-// A reason of the call's own kind, or a want of memory, which says nothing of what was asked. It is no Option of a reason:
-// `?` makes a want of memory of a failed allocation by From, which nobody but std can give an Option.
+// A reason of the call's own kind, or a want of memory, which says nothing of what was asked. It is no Option of a
+// reason: `?` makes a want of memory of a failed allocation by From, which nobody but std can give an Option.
 #[derive(Clone, Copy, Drop)]
 pub enum Failure<E> {
     Because(E),

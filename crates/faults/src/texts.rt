@@ -5,7 +5,7 @@ use crate::faults::{Fault, Layer, Reason};
 use std::fmt;
 
 impl Reason {
-    // The reason in a few words.
+    // The reason in a few words. A method, and no Display of its own: the Display has the number too.
     fn text(self) -> &'static str
         ensures { result.now ≡ reason_text self }
     {
@@ -30,7 +30,7 @@ impl Reason {
 }
 
 impl Layer {
-    // The layer's name.
+    // The layer's name, a method as a reason's words are.
     fn text(self) -> &'static str
         ensures { result.now ≡ layer_text self }
     {
@@ -54,8 +54,8 @@ impl fmt::Display for Reason {
     }
 }
 
-// As `4 (record)`. It is as that of a reason, and by itself, since no impl of Display can stand for every type that has a
-// number and words, and a trait for the two would be longer than this line twice.
+// As `4 (record)`. Written again beside a reason's, since no impl of Display can stand for every type that has a number
+// and words, and a trait for the two would be longer than this line twice.
 impl fmt::Display for Layer {
     ghost output = { λ l. Some (layer_shown l) };
 

@@ -7,7 +7,7 @@ ghost use Rattle.figures.specs.Figures.{Figures};
 use sampling::slot_of;
 
 // The slots of the first five records in a sample of two with the seed 0. The prover computes them, and every other
-// figure, from the definitions; so each stands here with its numbers, and none comes of a loop.
+// figure, from the definitions; so each stands here with its numbers, and none comes from a loop.
 pub fn figures() -> [Option<u16>; 5]
     ensures slots { result ≡ Some 0 ∷ Some 1 ∷ Some 1 ∷ Some 0 ∷ None ∷ [] }
     ensures computed { Figures }

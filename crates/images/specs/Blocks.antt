@@ -6,7 +6,7 @@ use Rattle.std.proofs.lemmas.List.{length-take, length-drop}
 use Rattle.std.proofs.lemmas.Bool.{cases_eq}
 use Rattle.stores.specs.Meanings.{whole, Lawful}
 use Rattle.stores.specs.Outcomes.{Wrote}
-use Rattle.stores.proofs.Places.{put_here, put_other}
+use Rattle.stores.proofs.Places.{length_put, put_here, put_other}
 use Rattle.images.specs.Images.{block, blocks_in, splice, image_meaning}
 
 -- a block in the memory has 504 bytes
@@ -14,8 +14,9 @@ pub length_block : (xs : List ℕ) (b n : ℕ) → b < n → 504 * n ≤ length 
 length_block xs b n h f = simp (length-take, length-drop) (omega arith)
 
 -- 504 bytes put in the place of block a are an accepted write, where the image is on
-pub image_wrote : (on : Bool) (xs zs ys : List ℕ) (a k : ℕ) → on ≡ true → a < blocks_in (length xs) → length zs ≡ length xs → length ys ≡ 504 → k ≡ 504 → zs ≡ put_mid (504 * a) k xs ys → Wrote (image_meaning on xs) (image_meaning on zs) a ys
-image_wrote on xs zs ys a k o h z l kk e =
+pub image_wrote : (on : Bool) (xs zs ys : List ℕ) (a k : ℕ) → on ≡ true → a < blocks_in (length xs) → length ys ≡ 504 → k ≡ 504 → zs ≡ put_mid (504 * a) k xs ys → Wrote (image_meaning on xs) (image_meaning on zs) a ys
+image_wrote on xs zs ys a k o h l kk e =
+    let z : length zs ≡ length xs = ap length e ∙ length_put xs ys (504 * a) k (omega arith) (l ∙ sym kk) in
     let same : block zs a ≡ ys = ap (λ (s : List ℕ). block s a) e ∙ put_here xs ys (504 * a) k 504 (omega arith) l in
     let other : (b : ℕ) → b < blocks_in (length xs) → (b ≢ a) → block zs b ≡ block xs b =
     λ b hb ne. ap (λ (s : List ℕ). block s b) e ∙ put_other 504 k xs ys a b (omega arith) (omega arith) (l ∙ sym kk) ne in

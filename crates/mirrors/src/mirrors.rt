@@ -5,8 +5,8 @@ pub mod repairs;
 pub mod stored;
 
 // A store over another one by value, with half as many blocks. Block b has its first copy at block b below and its
-// second at half + b. While a mirror is on, both copies of each block read the same. It is on or off by a flag and not by
-// its type, since a fault turns the same value off.
+// second at half + b. While a mirror is on, both copies of each block read the same. It is on or off by a flag and not
+// by its type, since a fault turns the same value off.
 #[derive(Drop)]
 pub struct Mirror<S: Store> {
     below: S,

@@ -20,7 +20,7 @@ pub trait RecordKind: Copy + Drop {
     // Of twelve bytes, the first of the first wrong field; none if they are a record's.
     ghost wrong: { List ℕ → Option ℕ };
 
-    // Not From and TryFrom, whose contracts each impl states for itself: these are the trait's, so every kind keeps them.
+    // Not From and TryFrom, whose contracts each impl states for itself: these are the trait's, for every kind.
     fn encode(&self) -> [u8; RECORD_BYTES]
         ensures { result ≡ bytes self.now };
 

@@ -14,7 +14,7 @@ pub const COUNT_LIMIT: u32 = 4_000_000_000;
 
 // Algorithm R's sample of the records inserted so far. Its memory is that of a full sample from the start, so that
 // an insert allocates nothing and takes the same few steps whatever the size is. Which records it keeps the sample of
-// is no part of it, since two lists can have the same sample: the contracts speak of each list that it may be (`OfKept`).
+// is no part of it, since two lists can have the same sample: contracts speak of each list that it may be (`OfKept`).
 #[derive(Drop)]
 pub struct Reservoir<K> {
     seed: u64,

@@ -32,8 +32,8 @@ impl Session {
         self.sample.slot(i).map(Answer::Found)
     }
 
-    // One command: its answer, or its refusal. A result in a result, since a refusal is kept among the answers, and a want
-    // of memory ends the work.
+    // One command: its answer, or its refusal. A result in a result, since a refusal is kept among the answers, and a
+    // want of memory ends the work.
     pub fn answer(&mut self, command: Command) -> Result<Result<Answer, Fault>, AllocError>
         ensures { IfOk result (λ a. Replied command self.old.sample self.new.sample (said a)) }
     {

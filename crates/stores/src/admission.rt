@@ -16,7 +16,7 @@ pub fn powered(own: Layer, on: bool) -> Result<(), Fault>
 }
 
 // What it asks before it reads or writes a block, in this order: a block in range, a buffer of a block's length, and
-// that the store is on.
+// that the store is on. Plain arguments: a struct of own, size and on would be made for each call.
 pub fn admit(own: Layer, size: u32, on: bool, block: u32, length: usize) -> Result<(), Fault>
     ensures { result ≡ admission own size on block length }
 {

@@ -11,7 +11,8 @@ use script::{Command, Scenario, Unread};
 use std::alloc::Global;
 use std::fmt;
 
-// The lines of commands that were answered or refused. The commands stay the caller's, so the answers stand beside them.
+// The lines of commands that were answered or refused. The commands stay the caller's, so the answers stand beside
+// them.
 // A loop here and one in Skipped, since what is written of an item is made on the way and no slice of it exists.
 #[derive(Drop)]
 struct Answered<'a> {

@@ -3,6 +3,7 @@ ghost use Rattle.faults.specs.declared.faults.Layer.TheVariants.{Device};
 ghost use Rattle.stores.specs.Meanings.{Steadily};
 ghost use Rattle.stores.specs.Outcomes.{ReadOutcome, WriteOutcome, FlushOutcome, RestartOutcome};
 ghost use Rattle.benches.specs.Benches.{meaning_of, written, flushed, awoken, Made};
+ghost use Rattle.benches.specs.Views.{allocation_of};
 ghost use Rattle.benches.specs.Lawful.{bench_lawful};
 
 use crate::benches::{Bench, Given};
@@ -38,10 +39,11 @@ impl Bench {
         }
     }
 
-    // The memory, with what is settled in it. Held writes are lost, as in a cut that keeps none of them. A method as
-    // std's `into_bytes`, and no `From`: the name says what is left.
+    // The memory that was given, with what is settled in it. Held writes are lost, as in a cut that keeps none of them.
+    // A method as std's `into_bytes`, and no `From`: the name says what is left.
     pub fn into_bytes(self) -> Vec<u8>
-        ensures { result.items ≡ self.mem }
+        ensures items { result.items ≡ self.mem }
+        ensures allocation { allocation_of result ≡ self.allocation }
     {
         let Bench { disk, .. } = self;
         disk.into_bytes()

@@ -17,7 +17,7 @@ impl Image {
         Image { bytes, on: false }
     }
 
-    // The memory, with what was written in it. A method as std's `into_bytes`, and no `From`: the name says what is left.
+    // The memory, with what was written in it. A method as std's `into_bytes`, and no From: the name says what is left.
     pub fn into_bytes(self) -> Vec<u8>
         ensures { result ≡ self.bytes }
     {

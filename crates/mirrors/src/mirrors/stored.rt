@@ -25,8 +25,8 @@ impl<S: Store> Mirror<S> {
     }
 }
 
-// Each call turns the mirror off, works below with `?`, and turns it on. No function does that around a closure: it would
-// have to say of any work what it leaves below, which is longer than the two lines.
+// Each call turns the mirror off, works below with `?`, and turns it on. No function does that around a closure: it
+// would have to say of any work what it leaves below, which is longer than the two lines.
 impl<S: Store> Store for Mirror<S> {
     ghost meaning = { λ s. mirror_meaning s.on (S.Store.meaning s.below) };
 

@@ -23,5 +23,5 @@ returns-clause-outcome c =
       buffer = search rules;
       off = search rules;
       served = λ h l o.
-          image_wrote old.on (vec_items old.bytes) _ c.args.bytes.now c.args.block k o h (ap length whole ∙ len ∙ old.bytes.ok.0) l (omega arith) (whole ∙ cc);
+          image_wrote old.on (vec_items old.bytes) _ c.args.bytes.now c.args.block k o h l (omega arith) (whole ∙ cc);
     }
