@@ -8,28 +8,28 @@ use Rattle.stores.proofs.Places.{span_of, length_put, put_here, put_other}
 use Rattle.benches.specs.Held.{content, settled, tore}
 
 -- the bytes of a block, and the one after them
-abbrev slot : List ℕ → ℕ → List ℕ
-slot m b = span_of 505 m b
+abbrev place : List ℕ → ℕ → List ℕ
+place m b = span_of 505 m b
 
-abbrev seen : ℕ → List ℕ → Content
+abbrev pub seen : ℕ → List ℕ → Content
 seen f xs = cond (f == 0) (whole xs) torn
 
-content_slot : (m : List ℕ) (b : ℕ) → seen (slice_index (slot m b) 504) (take 504 (slot m b)) ≡ content m b
-content_slot m b =
-    ap (λ f. seen f (take 504 (slot m b))) (get_or-take 505 (drop (505 * b) m) 504 0 (omega arith) ∙ get_or-drop (505 * b) m 504 0)
+content_place : (m : List ℕ) (b : ℕ) → seen (slice_index (place m b) 504) (take 504 (place m b)) ≡ content m b
+content_place m b =
+    ap (λ f. seen f (take 504 (place m b))) (get_or-take 505 (drop (505 * b) m) 504 0 (omega arith) ∙ get_or-drop (505 * b) m 504 0)
     ∙ ap (λ (xs : List ℕ). seen (slice_index m (505 * b + 504)) xs) (take-take 504 505 (drop (505 * b) m) (omega arith))
 
--- what is settled at a block is known from its slot
-content_same : (m n : List ℕ) (b : ℕ) → slot m b ≡ slot n b → content m b ≡ content n b
-content_same m n b e = sym (content_slot m b) ∙ ap (λ (xs : List ℕ). seen (slice_index xs 504) (take 504 xs)) e ∙ content_slot n b
+-- what is settled at a block is known from its place
+same_place_content : (m n : List ℕ) (b : ℕ) → place m b ≡ place n b → content m b ≡ content n b
+same_place_content m n b e = sym (content_place m b) ∙ ap (λ (xs : List ℕ). seen (slice_index xs 504) (take 504 xs)) e ∙ content_place n b
 
-slot_from : (m : List ℕ) (b : ℕ) → slot m b ≡ drop (505 * b) (take (505 * b + 505) m)
-slot_from m b = sym (drop-take (505 * b) 505 m)
+place_from : (m : List ℕ) (b : ℕ) → place m b ≡ drop (505 * b) (take (505 * b + 505) m)
+place_from m b = sym (drop-take (505 * b) 505 m)
 
-slot_set : (m : List ℕ) (a b v : ℕ) → (b ≢ a) → slot (slice_set m (505 * a + 504) v) b ≡ slot m b
-slot_set m a b v ne =
+place_set : (m : List ℕ) (a b v : ℕ) → (b ≢ a) → place (slice_set m (505 * a + 504) v) b ≡ place m b
+place_set m a b v ne =
     ⊎_elim
-    (λ below. slot_from (slice_set m (505 * a + 504) v) b ∙ ap (λ (xs : List ℕ). drop (505 * b) xs) (take-set-le (505 * b + 505) m (505 * a + 504) v (omega arith)) ∙ sym (slot_from m b))
+    (λ below. place_from (slice_set m (505 * a + 504) v) b ∙ ap (λ (xs : List ℕ). drop (505 * b) xs) (take-set-le (505 * b + 505) m (505 * a + 504) v (omega arith)) ∙ sym (place_from m b))
     (λ above. ap (λ (xs : List ℕ). take 505 xs) (drop-set-lt (505 * b) m (505 * a + 504) v (omega arith)))
     (cases_lt b a)
 
@@ -49,10 +49,10 @@ settled_here m ys a f l =
     ∙ ap whole (sym (drop-take (505 * a) 504 (settled m a ys)) ∙ before ∙ drop-take (505 * a) 504 n ∙ put_here m ys (505 * a) 504 504 (omega arith) l)
 
 pub settled_other : (m ys : List ℕ) (a b : ℕ) → 505 * a + 505 ≤ length m → length ys ≡ 504 → (b ≢ a) → content (settled m a ys) b ≡ content m b
-settled_other m ys a b f l ne = content_same (settled m a ys) m b (slot_set (put_mid (505 * a) 504 m ys) a b 0 ne ∙ put_other 505 504 m ys a b (omega arith) (omega arith) l ne)
+settled_other m ys a b f l ne = same_place_content (settled m a ys) m b (place_set (put_mid (505 * a) 504 m ys) a b 0 ne ∙ put_other 505 504 m ys a b (omega arith) (omega arith) l ne)
 
 pub tore_here : (m : List ℕ) (a : ℕ) → 505 * a + 505 ≤ length m → content (tore m a) a ≡ torn
 tore_here m a f = ap (λ i. seen i (take 504 (drop (505 * a) (tore m a)))) (get_or-set_same m (505 * a + 504) 1 0 (omega arith))
 
 pub tore_other : (m : List ℕ) (a b : ℕ) → (b ≢ a) → content (tore m a) b ≡ content m b
-tore_other m a b ne = content_same (tore m a) m b (slot_set m a b 1 ne)
+tore_other m a b ne = same_place_content (tore m a) m b (place_set m a b 1 ne)

@@ -1,11 +1,10 @@
 -- What a bench's calls do to its meaning. Assumes nothing.
-use Rattle.std.proofs.Common.{◌≡◌, ℕ, Bool, true, false, cond, eqb, ltb, ◌⊎◌, List, [], ◌∷◌, ◌++◌, length, Ok, sym, refl, ap, ◌∙◌, subst, inl, inr, ⊎_elim, arith}
+use Rattle.std.proofs.Common.{◌≡◌, ℕ, ◌<◌, Bool, true, false, cond, eqb, ltb, ◌⊎◌, List, [], ◌∷◌, ◌++◌, length, Ok, sym, refl, ap, ◌∙◌, subst, inl, inr, ⊎_elim, arith}
 use Rattle.std.proofs.lemmas.Bool.{cases_eq, cond_both, true≢false, false≢true, ltb-true, ltb-false, eqb-true, eqb-false}
 use Rattle.faults.specs.declared.faults.Layer.TheVariants.{Device}
 use Rattle.stores.specs.Meanings.{Content, whole, Meaning, Settled, Written}
 use Rattle.stores.specs.Outcomes.{Answer, WriteServed, WriteOutcome, FlushOutcome, Restarted}
-use Rattle.stores.specs.Admission.{powered, admission}
-use Rattle.stores.proofs.Admitted.{in_range, of_a_block, is_on as admitted_on}
+use Rattle.stores.specs.Admission.{powered}
 use Rattle.benches.specs.declared.held.Held.{Held}
 use Rattle.benches.specs.declared.power.Power.{Power}
 use Rattle.benches.specs.declared.power.Power.TheVariants.{Off, Fuse, Lasting}
@@ -136,22 +135,20 @@ write_served false p mem hs h g i =
       };
     }
 
-write_base : (p : Power) (mem : List ℕ) (hs : List Held) (h : Held) → ◌≡◌ {A = Answer} (Ok tt) (admission Device (blocks_in (length mem)) (is_on p) h.block (length h.bytes)) → Inside (length mem) hs → WriteOutcome 504 Device Device (bench_meaning p mem hs) (bench_meaning (spent p) (room_mem mem hs) (room_held hs ++ h ∷ [])) h.block h.bytes (powered Device (goes p))
-write_base p mem hs h a i =
-    let size = blocks_in (length mem) in
-    let n = length h.bytes in
+write_base : (p : Power) (mem : List ℕ) (hs : List Held) (h : Held) → h.block < blocks_in (length mem) → is_on p ≡ true → Inside (length mem) hs → WriteOutcome 504 Device Device (bench_meaning p mem hs) (bench_meaning (spent p) (room_mem mem hs) (room_held hs ++ h ∷ [])) h.block h.bytes (powered Device (goes p))
+write_base p mem hs h range on i =
     record {
-      range = λ r. absurd (omega (arith, in_range Device size (is_on p) h.block n a));
-      buffer = λ r l. absurd (l (of_a_block Device size (is_on p) h.block n a));
-      off = λ r l o. absurd (true≢false (sym (admitted_on Device size (is_on p) h.block n a) ∙ o));
+      range = λ r. absurd (omega arith);
+      buffer = λ r l. absurd (l h.long);
+      off = λ r l o. absurd (true≢false (sym on ∙ o));
       served = λ r l o. write_served (goes p) p mem hs h refl i;
     }
 
-pub write_outcome : (p q : Power) (mem after : List ℕ) (hs all : List Held) (h : Held) (r : Answer) → ◌≡◌ {A = Answer} (Ok tt) (admission Device (blocks_in (length mem)) (is_on p) h.block (length h.bytes)) → Inside (length mem) hs → q ≡ spent p → after ≡ room_mem mem hs → all ≡ room_held hs ++ h ∷ [] → r ≡ powered Device (goes p) → WriteOutcome 504 Device Device (bench_meaning p mem hs) (bench_meaning q after all) h.block h.bytes r
-write_outcome p q mem after hs all h r a i e f g k =
+pub write_outcome : (p q : Power) (mem after : List ℕ) (hs all : List Held) (h : Held) (r : Answer) → h.block < blocks_in (length mem) → is_on p ≡ true → Inside (length mem) hs → q ≡ spent p → after ≡ room_mem mem hs → all ≡ room_held hs ++ h ∷ [] → r ≡ powered Device (goes p) → WriteOutcome 504 Device Device (bench_meaning p mem hs) (bench_meaning q after all) h.block h.bytes r
+write_outcome p q mem after hs all h r range on i e f g k =
     let P : Meaning → Type 0 = λ n. WriteOutcome 504 Device Device (bench_meaning p mem hs) n h.block h.bytes (powered Device (goes p)) in
     let Q : Answer → Type 0 = λ x. WriteOutcome 504 Device Device (bench_meaning p mem hs) (bench_meaning q after all) h.block h.bytes x in
-    subst Q (sym k) (bench_same P (spent p) q (room_mem mem hs) after (room_held hs ++ h ∷ []) all e f g (write_base p mem hs h a i))
+    subst Q (sym k) (bench_same P (spent p) q (room_mem mem hs) after (room_held hs ++ h ∷ []) all e f g (write_base p mem hs h range on i))
 
 -- a bench that holds nothing is settled
 settled_none : (p : Power) (mem : List ℕ) → Settled (bench_meaning p mem [])

@@ -1,15 +1,16 @@
 -- What a bench's memory and its held writes say of each block. Assumes nothing.
-use Rattle.std.specs.Prelude.{◌≡◌, refl, Bool, true, false, replicate, ℕ, ◌+◌, ◌*◌, ◌/◌, ◌<◌, ◌≤◌, min, cond, ◌⊎◌, List, [], ◌∷◌, length, take, drop, map, filter, Option, None, Some, ◌==◌, nat_lt, slice_index, slice_index_or, slice_set}
+use Rattle.std.specs.Prelude.{◌≡◌, refl, Bool, true, false, replicate, ℕ, ◌+◌, ◌*◌, ◌<◌, ◌≤◌, cond, ◌⊎◌, List, [], ◌∷◌, length, take, drop, map, filter, Option, None, Some, ◌==◌, nat_lt, slice_index, slice_index_or, slice_set}
 use Rattle.std.proofs.lemmas.Bool.{eqb-true}
 use borrow.Rule.Slice.PartMut.{put_mid}
 use Rattle.stores.specs.Meanings.{Content, whole, torn, Meaning}
+use Rattle.stores.specs.Places.{blocks_of}
 use Rattle.benches.specs.declared.held.Held.{Held}
 use Rattle.benches.specs.declared.power.Power.{Power}
 use Rattle.benches.specs.Supplies.{is_on, is_lasting}
 
 -- as many whole blocks as fit in this many bytes, up to the limit
 abbrev pub blocks_in : ℕ → ℕ
-blocks_in n = min (n / 505) 65536
+blocks_in n = blocks_of 505 n
 
 -- what is settled at block b: 504 bytes, and then a byte that is zero unless the block is torn
 abbrev pub content : List ℕ → ℕ → Content

@@ -51,17 +51,17 @@ among_length (h ∷ hs) b bs a =
     (λ ne. among_length hs b bs (subst P (miss h hs b ne) a))
     (cases_eq h.block b)
 
--- bytes that are shown whole, or torn, are 504 if they are
-seen_length : (x bs : List ℕ) (t : Bool) → length x ≡ 504 → whole bs ≡ cond t (whole x) torn → length bs ≡ 504
-seen_length x bs true l e = let s : bs ≡ x = cc in ap length s ∙ l
-seen_length x bs false l e = cc
+-- bytes that are shown whole, or torn, are as many as they are
+seen_length : (n : ℕ) (x bs : List ℕ) (t : Bool) → length x ≡ n → whole bs ≡ cond t (whole x) torn → length bs ≡ n
+seen_length n x bs true l e = let s : bs ≡ x = cc in ap length s ∙ l
+seen_length n x bs false l e = cc
 
 -- what is settled at a block in the memory is torn or 504 bytes
 content_length : (m bs : List ℕ) (b : ℕ) → 505 * b + 505 ≤ length m → whole bs ≡ content m b → length bs ≡ 504
 content_length m bs b f e =
     let x = take 504 (drop (505 * b) m) in
     let l : length x ≡ 504 = simp (length-take, length-drop) (omega arith) in
-    seen_length x bs (slice_index m (505 * b + 504) == 0) l e
+    seen_length 504 x bs (slice_index m (505 * b + 504) == 0) l e
 
 -- what stands or is read at a block has 504 bytes, if it is whole
 pub bench_lawful : (power : Power) (mem : List ℕ) (held : List Held) → Lawful 504 65536 (bench_meaning power mem held)

@@ -79,7 +79,8 @@ impl Disk {
         bytes
     }
 
-    // As many whole blocks as fit in the memory, up to the limit. As an image has it, in blocks of another span.
+    // As many whole blocks as fit in the memory, up to the limit. As an image has it, in blocks of another span: shared,
+    // this line would need an answer for a span of zero.
     pub(crate) fn size(&self) -> u32
         ensures { result ≡ blocks_in (length self.now.bytes.items) }
     {

@@ -1,4 +1,4 @@
-ghost use Rattle.std.specs.Prelude.{◌≡◌, ◌≤◌, ◌==◌, length, slice_get, reverse};
+ghost use Rattle.std.specs.Prelude.{◌≡◌, ◌≤◌, ◌==◌, length, filter, slice_get, reverse};
 ghost use Rattle.std.specs.List.{find};
 ghost use Rattle.std.specs.Option.{option_copied, option_map};
 ghost use Rattle.benches.specs.Held.{writes_of};
@@ -10,7 +10,7 @@ use crate::held::Held;
 // How many writes of a block are held. (The chain stands here and in `nth`, since a function cannot answer an
 // `impl Iterator`.)
 pub(crate) fn count(held: &[Held], block: u32) -> usize
-    ensures value { result ≡ length (writes_of held.now block) }
+    ensures value { result ≡ length (filter (λ h. h.block == block) held.now) }
     ensures few { result ≤ length held.now }
 {
     held.iter().filter(|h| h.block == block).count()

@@ -1,8 +1,9 @@
 -- What an image means. Assumes nothing.
-use Rattle.std.specs.Prelude.{◌≡◌, ℕ, ◌+◌, ◌*◌, ◌/◌, min, Bool, true, false, List, ◌++◌, length, take, drop, Ok, Err, vec_items}
+use Rattle.std.specs.Prelude.{◌≡◌, ℕ, ◌+◌, ◌*◌, Bool, true, false, List, ◌++◌, length, take, drop, Ok, Err, vec_items}
 use Rattle.std.specs.Global.{Vec}
 use Rattle.stores.specs.Meanings.{whole, Meaning}
 use Rattle.stores.specs.Outcomes.{Answer}
+use Rattle.stores.specs.Places.{blocks_of}
 use Rattle.images.specs.declared.images.Image.{Image}
 
 -- the bytes of block b
@@ -20,7 +21,7 @@ memory_after (Err e) memory b bytes = memory
 
 -- as many whole blocks as fit in this many bytes, up to the limit
 abbrev pub blocks_in : ℕ → ℕ
-blocks_in n = min (n / 504) 65536
+blocks_in n = blocks_of 504 n
 
 -- an image settles each write, is never torn, and its supply lasts
 abbrev pub image_meaning : Bool → List ℕ → Meaning

@@ -1,2 +1,3 @@
 pub mod Mends
 pub mod Steady
+pub mod Steps

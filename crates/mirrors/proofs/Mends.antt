@@ -32,6 +32,6 @@ mend_cut source on m k n e r f =
           at_second = r.reads (half m + b) (omega arith);
           is = f.stands b c (rw h l) z ∙ ap (λ (i : ℕ). either (k.reads b) (k.reads (i + b))) h;
         };
-        lasts = λ l. let z : ◌≡◌ {A = ℕ} 0 1 = cc (r.lasts l) in let x : ⊥ = omega arith in absurd x;
+        lasts = λ l. let x : ⊥ = cc (r.lasts l) in absurd x;
       };
     }

@@ -1,5 +1,5 @@
 -- The plans so far, and what a line makes of them. Assumes nothing.
-use Rattle.std.proofs.Common.{◌≡◌, ℕ, suc, zero, ◌+◌, ◌-◌, ◌<◌, List, [], ◌∷◌, map, length, get_or, slice_set, Some, Ok, sym, refl, ap, arith, ◌∙◌}
+use Rattle.std.proofs.Common.{◌≡◌, ℕ, suc, zero, ◌+◌, ◌-◌, ◌<◌, List, [], ◌∷◌, ◌++◌, map, length, get_or, slice_set, Some, Ok, sym, refl, ap, arith, ◌∙◌}
 use Rattle.std.proofs.lemmas.List.{length-map}
 use Rattle.parsing.specs.Scripts.{Plan, plan_of, with_command, ask_last, add_line}
 use Rattle.parsing.specs.declared.forms.Line.TheVariants.{Asks}
@@ -8,6 +8,12 @@ use Rattle.script.specs.declared.commands.Scenario.{Scenario}
 
 abbrev pub plan : ℕ → ℕ → List Command → Plan
 plan size seed commands = record { size = size; seed = seed; commands = commands }
+
+-- a command goes to the last of the plans, whatever stands before it; docs/PORT.md names this
+pub ask_last_lem : (xs : List Plan) (p : Plan) (command : Command) → ask_last (xs ++ (p ∷ [])) command ≡ xs ++ (with_command p command ∷ [])
+ask_last_lem [] p command = refl
+ask_last_lem (x ∷ []) p command = refl
+ask_last_lem (x ∷ y ∷ xs) p command = ap (λ (ps : List Plan). x ∷ ps) (ask_last_lem (y ∷ xs) p command)
 
 -- the last scenario gets a command
 ask_set : (command : Command) (xs : List Scenario) (i : ℕ) (d y : Scenario) → i + 1 ≡ length xs → plan_of y ≡ with_command (plan_of (get_or xs i d)) command → map plan_of (slice_set xs i y) ≡ ask_last (map plan_of xs) command

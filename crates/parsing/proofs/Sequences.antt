@@ -1,22 +1,12 @@
 -- The words after a command's name, read one after another. Assumes nothing.
-use Rattle.std.proofs.Common.{◌≡◌, ℕ, List, [], ◌∷◌, length, get_or, ℤ, Some, None, Ok, Err, IsErrAnd, Option, Result, Bor, sym, refl, arith}
-use Rattle.std.specs.Option.{ok_or}
+use Rattle.std.proofs.Common.{◌≡◌, ℕ, List, [], ◌∷◌, length, get_or, ℤ, Ok, Option, Bor, sym, refl, arith}
 use Rattle.parsing.specs.Lines.{or_else, reservoir_of, read_reservoir, insert_of, read_insert, slot_of, read_slot}
 use Rattle.parsing.specs.Numerals.{read_number, read_seed, read_offset}
 use Rattle.parsing.specs.Words.{texts}
 use Rattle.parsing.proofs.Numbers.{PlainUnsigned, PlainSigned, plain_number, plain_offset}
-use Rattle.parsing.specs.declared.forms.Line.{Line}
 use Rattle.parsing.specs.declared.forms.Line.TheVariants.{Reservoir, Asks}
 use Rattle.script.specs.declared.commands.Command.TheVariants.{Insert, Slot}
-use Rattle.script.specs.declared.expectations.Expected.{Expected}
 use Rattle.script.specs.declared.expectations.Expected.TheVariants as expected
-
--- a word that says nothing ends the reading with what was expected of it
-pub missed : {T : Type 0} (o : Option T) (e : Expected) (next : T → Result Line Expected) {f : Expected} {q : Result T Expected} {r whole : Result Line Expected}
-    → q ≡ ok_or o e → q ≡ Err f → IsErrAnd r (λ g. g ≡ f) → or_else o e next ≡ whole → r ≡ whole
-missed (Some x) e next d h s all = absurd (cc (d, h))
-missed None e next {r = Ok x} d h s all = absurd s
-missed None e next {r = Err g} d h s all = cc
 
 plain_32 : {word : List ℕ} {r : Option ℕ} → PlainUnsigned 32 word r → r ≡ read_number 10 0xFFFF_FFFF word
 plain_32 = plain_number 32 0xFFFF_FFFF refl

@@ -2,7 +2,7 @@
 use Rattle.std.proofs.Common.{◌≡◌, ℕ, zero, suc, ◌-◌, ◌%◌, ◌<◌, ◌≤◌, cond, ltb, Some, None, sym, refl, ◌∙◌, arith}
 use Rattle.std.proofs.lemmas.Bool.{lt-ltb}
 use Rattle.std.proofs.lemmas.Bool.Decides.{nat_tests}
-use Rattle.sampling.specs.Draws.{draw_of, slot_by, slot_of, within}
+use Rattle.sampling.specs.Draws.{draw_of, slot_of, within}
 
 -- no record has the number 0
 pub slot_none : (seed size k : ℕ) → k ≡ 0 → slot_of seed size k ≡ None
@@ -14,7 +14,7 @@ unfolding slot_of
 slot_suc seed size j = refl
 
 -- the same by the record's number
-pub slot_from_one : (seed size k : ℕ) → 0 < k → slot_of seed size k ≡ slot_by size k (draw_of seed k)
+pub slot_from_one : (seed size k : ℕ) → 0 < k → slot_of seed size k ≡ cond (ltb (k - 1) size) (Some (k - 1)) (within size (draw_of seed k % k))
 slot_from_one seed size zero h = absurd (omega arith)
 slot_from_one seed size (suc j) h = let e : suc j - 1 ≡ j = omega arith in slot_suc seed size j ∙ rw e refl
 

@@ -1,5 +1,5 @@
 -- SplitMix64's draws, with sums and products modulo 2^64, and the slots of numbered records. Assumes nothing.
-use Rattle.std.specs.Prelude.{ℕ, zero, suc, ◌+◌, ◌-◌, ◌*◌, ◌/◌, ◌%◌, ◌^◌, cond, Some, None, Option, bit_xor, nat_lt}
+use Rattle.std.specs.Prelude.{ℕ, zero, suc, ◌+◌, ◌*◌, ◌/◌, ◌%◌, ◌^◌, cond, Some, None, Option, bit_xor, nat_lt}
 
 -- sums and products modulo 2^64
 abbrev pub sum64 : ℕ → ℕ → ℕ
@@ -24,10 +24,6 @@ draw_of seed k = split_mix seed k
 -- a slot, if a sample of this size has it
 abbrev pub within : ℕ → ℕ → Option ℕ
 within size r = cond (nat_lt r size) (Some r) None
-
--- the slot of record k, k from 1, by its draw
-abbrev pub slot_by : ℕ → ℕ → ℕ → Option ℕ
-slot_by size k draw = cond (nat_lt (k - 1) size) (Some (k - 1)) (within size (draw % k))
 
 -- the slot of record k: k - 1 up to the size, and then draw k modulo k, where that is a slot. Records are numbered
 -- from 1, so nothing has slot 0 by the number 0.

@@ -14,7 +14,8 @@ use Rattle.scenarios.specs.Worked.{KeepsFields, said}
 use Rattle.scenarios.specs.declared.answers.Answer.{Answer}
 use Rattle.scenarios.specs.declared.answers.Answer.TheVariants.{Inserted, Found}
 
--- the answer a that is made of what r says of a record, or of a slot
+-- the answer a that is made of what r says of a record, or of a slot: two lemmas of two lines, since one over the variant
+-- would have to be given the reply to it too
 said_found : (r : Result Offset Fault) (a : Result Answer Fault) → MatchResult r (λ x. a ≡ Ok (Found x)) (λ f. a ≡ Err f)
     → said a ≡ record_reply (shown_as offset_fields r)
 said_found (Ok x) a e = ap said e

@@ -1,4 +1,3 @@
-pub mod Admitted
 pub mod Places
 pub mod Sameness
 pub mod Soundness

@@ -1,4 +1,5 @@
--- Meanings between which nothing changed. Assumes nothing.
+-- Meanings between which nothing changed. The check finds `same_trans` by itself where two calls change nothing; it
+-- stands for who builds on a store. Assumes nothing.
 use Rattle.std.proofs.Common.{sym, ◌∙◌}
 use Rattle.stores.specs.Meanings.{Meaning, Settled, Same}
 

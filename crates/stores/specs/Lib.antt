@@ -1,3 +1,4 @@
 pub mod Meanings
 pub mod Outcomes
 pub mod Admission
+pub mod Places

@@ -1,24 +1,19 @@
-use Rattle.std.proofs.Common.{map, length, vec_items, refl, arith, rules}
-use Rattle.parsing.specs.Scripts.{plan_of}
+use Rattle.std.proofs.Common.{length, refl, arith, rules}
 use Rattle.parsing.proofs.Readings.{numbered_lines, line_turn, lines_end, reading_more, reading_ends, stopped}
 use Rattle.parsing.proofs.parser.parse.Goals as goal
 
+-- A lemma over what the first two share (`In-Some`) would be longer than the line `at` twice.
 pub loop-i-preserved : goal.loop-i-preserved
 loop-i-preserved c =
-    let all = numbered_lines c.args.text.now c.into_iter-i-iterator.ensures.into_iter_gives c.enumerate-i-items.ensures.source c.split.ensures.text c.split.ensures.has_more c.split.ensures.pattern c.enumerate-i-items.ensures.count in
-    let at = line_turn _ c.next.new.self c.args.text.now all c.loop-i.yielded c.loop-i.yielded_by c.next.result c.next.ensures.steps c.in-Some.i c.in-Some.line c.in-Some.is in
-    reading_more c.args.text.now (length c.loop-i.yielded) (map plan_of (vec_items c.loop-i.scenarios)) c.loop-i.invariant c.in-Some.i c.in-Some.line.now at
-    c.loop-i.yielded (c.in-Some.i, c.in-Some.line) (map plan_of (vec_items c.add.new.scenarios)) c.add.result c.map_err.result _ c.in_ok-map_err.field-0 refl c.map_err.ensures.cases c.in_ok-map_err.was c.add.ensures
+    let at = line_turn {s = c.into_iter-i-iterator.result} _ _ c.args.text.now (search (rules, numbered_lines)) _ c.loop-i.yielded_by _ c.next.ensures.steps _ _ c.in-Some.is in
+    reading_more c.args.text.now _ _ c.loop-i.invariant _ _ at _ _ _ _ _ _ _ refl c.map_err.ensures.cases c.in_ok-map_err.was c.add.ensures
 
 pub returns-in_err-map_err : goal.returns-in_err-map_err
 returns-in_err-map_err c =
-    let all = numbered_lines c.args.text.now c.into_iter-i-iterator.ensures.into_iter_gives c.enumerate-i-items.ensures.source c.split.ensures.text c.split.ensures.has_more c.split.ensures.pattern c.enumerate-i-items.ensures.count in
-    let at = line_turn _ c.next.new.self c.args.text.now all c.loop-i.yielded c.loop-i.yielded_by c.next.result c.next.ensures.steps c.in-Some.i c.in-Some.line c.in-Some.is in
-    stopped c.args.text.now (length c.loop-i.yielded) (map plan_of (vec_items c.loop-i.scenarios)) c.loop-i.invariant c.in-Some.i c.in-Some.line.now at
-    (map plan_of (vec_items c.add.new.scenarios)) c.add.result c.map_err.result _ c.in_err-map_err.field-0.0 c.from_residual.result c.map_err.ensures.cases c.in_err-map_err.was (λ failed f t. search rules) c.add.ensures c.from_residual.ensures.1
+    let at = line_turn {s = c.into_iter-i-iterator.result} _ _ c.args.text.now (search (rules, numbered_lines)) _ c.loop-i.yielded_by _ c.next.ensures.steps _ _ c.in-Some.is in
+    stopped c.args.text.now _ _ c.loop-i.invariant _ _ at _ _ _ _ _ _ c.map_err.ensures.cases c.in_err-map_err.was (λ failed f t. search rules) c.add.ensures c.from_residual.ensures.1
 
 pub returns : goal.returns
 returns c =
-    let all = numbered_lines c.args.text.now c.into_iter-i-iterator.ensures.into_iter_gives c.enumerate-i-items.ensures.source c.split.ensures.text c.split.ensures.has_more c.split.ensures.pattern c.enumerate-i-items.ensures.count in
-    let n = lines_end _ c.next.new.self c.args.text.now all c.loop-i.yielded c.loop-i.yielded_by c.next.result c.next.ensures.steps c.in-None.is in
-    reading_ends c.args.text.now (length c.loop-i.yielded) (map plan_of (vec_items c.loop-i.scenarios)) c.loop-i.invariant (omega arith)
+    let n = lines_end {s = c.into_iter-i-iterator.result} _ _ c.args.text.now (search (rules, numbered_lines)) _ c.loop-i.yielded_by _ c.next.ensures.steps c.in-None.is in
+    reading_ends c.args.text.now (length c.loop-i.yielded) _ c.loop-i.invariant (omega arith)

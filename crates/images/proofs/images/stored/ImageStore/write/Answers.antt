@@ -1,8 +1,6 @@
-use Rattle.std.proofs.Common.{◌≡◌, ◌+◌, ◌-◌, ◌*◌, ◌≤◌, length, vec_items, ◌∙◌, ap, arith, rules}
+use Rattle.std.proofs.Common.{◌≡◌, ◌+◌, ◌-◌, ◌*◌, ◌<◌, ◌≤◌, length, vec_items, ◌∙◌, ap, arith, rules}
 use borrow.Rule.Slice.PartMut.{put_mid}
 use Rattle.std.proofs.lemmas.List.{with_items_is}
-use Rattle.faults.specs.declared.faults.Layer.TheVariants.{Device}
-use Rattle.stores.proofs.Admitted.{in_range}
 use Rattle.stores.proofs.Places.{length_put}
 use Rattle.images.specs.Images.{blocks_in}
 use Rattle.images.specs.Blocks.{image_wrote}
@@ -13,7 +11,7 @@ returns-clause-outcome c =
     let old = c.args.self.now in
     let from = 504 * c.args.block in
     let k = from + 504 - from in
-    let here = in_range Device (blocks_in (length (vec_items old.bytes))) old.on c.args.block (length c.args.bytes.now) (search rules) in
+    let here : c.args.block < blocks_in (length (vec_items old.bytes)) = search rules in
     let fit : from + k ≤ length c.deref_mut.result.now = omega (arith, ap length c.deref_mut.ensures.value, here) in
     let put = put_mid from k c.deref_mut.result.now c.copy_from_slice.new.self in
     let len : length put ≡ old.bytes.len = length_put c.deref_mut.result.now c.copy_from_slice.new.self from k fit (omega arith) ∙ c.deref_mut.ensures.len in
