@@ -1,15 +1,18 @@
 -- A held write is known from its block and its bytes. Assumes nothing.
-use Rattle.std.proofs.Common.{◌≡◌, ℕ, Bool, true, false, ◌<◌, List, [], ◌∷◌, ◌++◌, length, Some, ◌==◌, nat_lt, ◌&&◌, ap, ◌∙◌, refl, sym, arith}
-use Rattle.std.proofs.lemmas.Bool.{true≢false, cond-true, eq-eqb}
-use Rattle.std.proofs.lemmas.Bool.Decides.{nat_tests}
+use Rattle.std.proofs.Common.{◌≡◌, ℕ, Bool, true, false, List, [], ◌∷◌, ◌++◌, length, Some, Ok, ◌==◌, ap, ◌∙◌, refl, sym}
+use Rattle.std.proofs.lemmas.Bool.{true≢false, eq-eqb}
 use Rattle.std.proofs.Math.Nat.{ℕ_set}
 use mathlib.Core.HLevel.{Σ_prop_path}
+use Rattle.faults.specs.declared.faults.Layer.TheVariants.{Device}
+use Rattle.stores.specs.Admission.{powered}
+use Rattle.stores.specs.Calls.{writes, response}
+use Rattle.stores.specs.Outcomes.{Answer}
 use Rattle.benches.specs.declared.held.Held.{Held}
 use Rattle.benches.specs.declared.power.Power.{Power}
-use Rattle.benches.specs.Held.{blocks_in, held_if, held_of, room_mem, room_held}
-use Rattle.benches.specs.Supplies.{is_on, spent}
-use Rattle.benches.specs.Views.{View, Allocation}
-use Rattle.benches.specs.Benches.{holding, written}
+use Rattle.benches.specs.Held.{held_if, held_of, room_mem, room_held}
+use Rattle.benches.specs.Supplies.{goes, spent}
+use Rattle.benches.specs.Views.{Contents}
+use Rattle.benches.specs.Benches.{admitted, holding, bench_response}
 
 pub same_held : (g h : Held) → g.block ≡ h.block → g.bytes ≡ h.bytes → g ≡ h
 same_held g h b e =
@@ -23,15 +26,15 @@ if_long h false e s = absurd (true≢false (sym s))
 pub held_of_is : (h : Held) → held_of h.block h.bytes ≡ Some h
 held_of_is h = if_long h (length h.bytes == 504) refl (eq-eqb (length h.bytes) 504 h.long)
 
--- a write in range, where the power is on, is held
-pub written_is : (v : View) (h : Held) → h.block < blocks_in (length v.mem) → is_on v.power ≡ true → written v h.block h.bytes ≡ holding v (Some h)
-written_is v h range on =
-    let test : (nat_lt h.block (blocks_in (length v.mem)) && (length h.bytes == 504 && is_on v.power)) ≡ true = grind (arith, nat_tests, h.long) in
-    cond-true _ (holding v (held_of h.block h.bytes)) v test ∙ ap (holding v) (held_of_is h)
+-- what a bench has once a write is held
+pub held_contents : (v : Contents) (h : Held) (mem : List ℕ) (held : List Held) (fuses : List ℕ) (power : Power) → mem ≡ room_mem v.mem v.held → held ≡ room_held v.held ++ h ∷ [] → fuses ≡ v.fuses → power ≡ spent v.power → ◌≡◌ {A = Contents} (record { mem = mem; held = held; fuses = fuses; power = power; left = v.left }) (holding v (held_of h.block h.bytes))
+held_contents v h mem held fuses power m k f p =
+    let parts : ◌≡◌ {A = Contents} (record { mem = mem; held = held; fuses = fuses; power = power; left = v.left }) (holding v (Some h)) =
+    λ i. record { mem = m i; held = k i; fuses = f i; power = p i; left = v.left } in
+    parts ∙ ap (holding v) (sym (held_of_is h))
 
--- and what a bench is then
-pub held_view : (v : View) (h : Held) (mem : List ℕ) (allocation : Allocation) (held : List Held) (fuses : List ℕ) (power : Power) → h.block < blocks_in (length v.mem) → is_on v.power ≡ true → mem ≡ room_mem v.mem v.held → allocation ≡ v.allocation → held ≡ room_held v.held ++ h ∷ [] → fuses ≡ v.fuses → power ≡ spent v.power → ◌≡◌ {A = View} (record { mem = mem; allocation = allocation; held = held; fuses = fuses; power = power; left = v.left }) (written v h.block h.bytes)
-held_view v h mem allocation held fuses power range on m o k f p =
-    let parts : ◌≡◌ {A = View} (record { mem = mem; allocation = allocation; held = held; fuses = fuses; power = power; left = v.left }) (holding v (Some h)) =
-    λ i. record { mem = m i; allocation = o i; held = k i; fuses = f i; power = p i; left = v.left } in
-    parts ∙ sym (written_is v h range on)
+-- and what is said to an admitted write of it
+pub held_response : (v : Contents) (h : Held) (r : Answer) (mem : List ℕ) (held : List Held) (fuses : List ℕ) (power : Power) → ◌≡◌ {A = Answer} (Ok tt) (admitted v h.block (length h.bytes)) → r ≡ powered Device (goes v.power) → mem ≡ room_mem v.mem v.held → held ≡ room_held v.held ++ h ∷ [] → fuses ≡ v.fuses → power ≡ spent v.power → response r (record { mem = mem; held = held; fuses = fuses; power = power; left = v.left }) ≡ bench_response v (writes h.block h.bytes)
+held_response v h r mem held fuses power a e m k f p =
+    let c = held_contents v h mem held fuses power m k f p in
+    rw (← a) (λ i. response (e i) (c i))

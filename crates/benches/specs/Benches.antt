@@ -1,56 +1,67 @@
--- What a bench means, and what each call makes of it. Assumes nothing.
-use Rattle.std.specs.Prelude.{Option, None, Some, ◌≡◌, ℕ, cond, ◌&&◌, List, [], ◌∷◌, ◌++◌, length, drop, Ok, Err, vec_items, Result, ◌==◌, nat_lt}
-use Rattle.stores.specs.Meanings.{Meaning}
+-- What a bench means, and what it says to each call. Assumes nothing.
+use Rattle.std.specs.Prelude.{Option, None, Some, ◌≡◌, ℕ, cond, List, [], ◌∷◌, ◌++◌, length, drop, Ok, Err, vec_items, Result}
+use Rattle.faults.specs.Refusals.{fault}
+use Rattle.faults.specs.declared.faults.Layer.TheVariants.{Device}
+use Rattle.faults.specs.declared.faults.Reason.TheVariants.{Torn}
+use Rattle.stores.specs.Admission.{admission, powered}
+use Rattle.stores.specs.Calls.{Call, Response, reads, writes, flushes, restarts, unless, response}
+use Rattle.stores.specs.Meanings.{Content, whole, torn, Meaning}
+use Rattle.stores.specs.Outcomes.{Answer}
 use Rattle.benches.specs.declared.held.Held.{Held}
 use Rattle.benches.specs.declared.power.Power.TheVariants.{Off}
 use Rattle.benches.specs.declared.benches.Bench.{Bench}
-use Rattle.benches.specs.Views.{View, allocation_of}
+use Rattle.benches.specs.Views.{View, Contents, allocation_of}
 use Rattle.benches.specs.declared.benches.Given.{Given}
-use Rattle.benches.specs.Held.{blocks_in, held_of, bench_meaning, settled_all, room_mem, room_held}
+use Rattle.benches.specs.Held.{blocks_in, content, writes_of, latest, held_of, bench_meaning, settled_all, room_mem, room_held}
 use Rattle.benches.specs.Supplies.{is_on, started, spent, goes}
 use Rattle.benches.specs.Passes.{passed}
 
 -- what a bench means
-abbrev pub meaning_of : View → Meaning
+abbrev pub meaning_of : Contents → Meaning
 meaning_of v = bench_meaning v.power v.mem v.held
 
+-- whether a block's call is admitted
+abbrev pub admitted : Contents → ℕ → ℕ → Answer
+admitted v b given = admission Device (blocks_in (length v.mem)) (is_on v.power) b given
+
+-- a block's bytes are read, or it is torn
+abbrev pub read_response : Contents → ℕ → List ℕ → Content → Response Contents
+read_response v b before (whole bytes) = record { answer = Ok tt; buffer = bytes; next = v }
+read_response v b before torn = record { answer = Err (fault Torn Device b); buffer = before; next = v }
+
 -- a write that is held uses up the power, cut or not
-abbrev pub holding : View → Option Held → View
+abbrev pub holding : Contents → Option Held → Contents
 holding v None = v
-holding v (Some h) =
+holding v (Some h) = record { mem = room_mem v.mem v.held; held = room_held v.held ++ h ∷ []; fuses = v.fuses; power = spent v.power; left = v.left }
+
+-- a flush settles all, unless it is cut
+abbrev pub flushed : Contents → Contents
+flushed v =
     record {
-      mem = room_mem v.mem v.held;
-      allocation = v.allocation;
-      held = room_held v.held ++ h ∷ [];
+      mem = cond (goes v.power) (settled_all v.mem v.held) v.mem;
+      held = cond (goes v.power) [] v.held;
       fuses = v.fuses;
       power = spent v.power;
       left = v.left;
     }
 
--- a write that is not refused is held
-abbrev pub written : View → ℕ → List ℕ → View
-written v b bs = cond (nat_lt b (blocks_in (length v.mem)) && (length bs == 504 && is_on v.power)) (holding v (held_of b bs)) v
-
--- a flush settles all, unless it is cut
-abbrev pub flushed : View → View
-flushed v =
-    cond (is_on v.power)
-    (cond (goes v.power)
-    (record { mem = settled_all v.mem v.held; allocation = v.allocation; held = []; fuses = v.fuses; power = spent v.power; left = v.left })
-    (record { mem = v.mem; allocation = v.allocation; held = v.held; fuses = v.fuses; power = spent v.power; left = v.left }))
-    v
-
 -- a restart decides what stands at each block, and lights the next fuse
-abbrev pub awoken : View → View
+abbrev pub awoken : Contents → Contents
 awoken v =
     record {
       mem = (passed v.held (record { mem = v.mem; left = v.left }) (blocks_in (length v.mem))).mem;
-      allocation = v.allocation;
       held = [];
       fuses = drop 1 v.fuses;
       power = started v.fuses;
       left = (passed v.held (record { mem = v.mem; left = v.left }) (blocks_in (length v.mem))).left;
     }
+
+-- what a bench says to each call; a write or a flush goes through, or is cut
+abbrev pub bench_response : Contents → Call → Response Contents
+bench_response v (reads b before) = unless (admitted v b (length before)) before v (read_response v b before (latest (content v.mem b) (writes_of v.held b)))
+bench_response v (writes b bytes) = unless (admitted v b (length bytes)) [] v (response (powered Device (goes v.power)) (holding v (held_of b bytes)))
+bench_response v flushes = response (powered Device (goes v.power)) (flushed v)
+bench_response v restarts = response (Ok tt) (awoken v)
 
 -- a new bench: the memory as it was given, off, with nothing held
 abbrev pub fresh : Given → View

@@ -37,3 +37,14 @@ pub record View : Type 0 where
   pub fuses : List ℕ
   pub power : Power
   pub left : List ℕ
+
+-- all of it but the allocation, which no call depends on
+pub record Contents : Type 0 where
+  pub mem : List ℕ
+  pub held : List Held
+  pub fuses : List ℕ
+  pub power : Power
+  pub left : List ℕ
+
+abbrev pub contents_of : View → Contents
+contents_of v = record { mem = v.mem; held = v.held; fuses = v.fuses; power = v.power; left = v.left }

@@ -41,3 +41,7 @@ layer_shown l = decimal (layer_number l) ++ (codes " (" ++ (layer_text l ++ code
 -- as `refusal 5 (no such record) of layer 4 (record) at place 8`
 abbrev pub fault_shown : Fault → List ℕ
 fault_shown f = codes "refusal " ++ (reason_shown f.reason ++ (codes " of layer " ++ (layer_shown f.layer ++ (codes " at place " ++ decimal f.place))))
+
+-- as `5 4 8`: its number, its layer's and its place
+abbrev pub refusal_text : Fault → List ℕ
+refusal_text f = decimal (reason_number f.reason) ++ (codes " " ++ (decimal (layer_number f.layer) ++ (codes " " ++ decimal f.place)))

@@ -5,3 +5,4 @@ mod faults;
 mod texts;
 
 pub use faults::{Fault, Layer, Reason};
+pub use texts::FaultNumbers;

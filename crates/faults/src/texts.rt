@@ -1,5 +1,5 @@
 ghost use Rattle.std.specs.Prelude.{◌≡◌, Some};
-ghost use Rattle.faults.specs.Texts.{reason_text, layer_text, reason_shown, layer_shown, fault_shown};
+ghost use Rattle.faults.specs.Texts.{reason_text, layer_text, reason_shown, layer_shown, fault_shown, refusal_text};
 
 use crate::faults::{Fault, Layer, Reason};
 use std::fmt;
@@ -75,5 +75,25 @@ impl fmt::Display for Fault {
         let layer = self.layer;
         let place = self.place;
         write!(f, "refusal {reason} of layer {layer} at place {place}")
+    }
+}
+
+// A refusal as its three numbers, as the programs print it.
+#[derive(Clone, Copy)]
+pub struct FaultNumbers(pub Fault);
+
+// As `5 4 8`.
+impl fmt::Display for FaultNumbers {
+    ghost output = { λ x. Some (refusal_text x.0) };
+
+    fn fmt<W: fmt::Write>(&self, f: &mut fmt::Formatter<W>) -> fmt::Result {
+        let FaultNumbers(fault) = self;
+        write!(
+            f,
+            "{} {} {}",
+            u8::from(fault.reason),
+            u8::from(fault.layer),
+            fault.place
+        )
     }
 }

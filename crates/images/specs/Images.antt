@@ -1,8 +1,11 @@
--- What an image means. Assumes nothing.
-use Rattle.std.specs.Prelude.{◌≡◌, ℕ, ◌+◌, ◌*◌, Bool, true, false, List, ◌++◌, length, take, drop, Ok, Err, vec_items}
+-- What an image means, and what it says to each call. Assumes nothing.
+use Rattle.std.specs.Prelude.{◌≡◌, ℕ, ◌+◌, ◌*◌, Bool, true, false, List, [], ◌++◌, length, take, drop, Ok, Err, vec_items}
 use Rattle.std.specs.Global.{Vec}
+use Rattle.faults.specs.declared.faults.Layer.TheVariants.{Device}
 use Rattle.stores.specs.Meanings.{whole, Meaning}
 use Rattle.stores.specs.Outcomes.{Answer}
+use Rattle.stores.specs.Admission.{powered, admission}
+use Rattle.stores.specs.Calls.{Call, Response, reads, writes, flushes, restarts, unless, response}
 use Rattle.stores.specs.Places.{blocks_of}
 use Rattle.images.specs.declared.images.Image.{Image}
 
@@ -33,9 +36,28 @@ image_meaning on bytes = record {
   lasts = true;
 }
 
--- what an image means: that of its memory, and of whether it is on
-abbrev pub meaning_of : Image → Meaning
-meaning_of s = image_meaning s.on (vec_items s.bytes)
+-- what an image has: its memory, and whether it is on
+pub record View : Type 0 where
+  pub bytes : List ℕ
+  pub on : Bool
+
+abbrev pub view_of : Image → View
+view_of s = record { bytes = vec_items s.bytes; on = s.on }
+
+-- what it means
+abbrev pub meaning_of : View → Meaning
+meaning_of v = image_meaning v.on v.bytes
+
+-- whether a block's call is admitted
+abbrev pub admitted : View → ℕ → ℕ → Answer
+admitted v b length_given = admission Device (blocks_in (length v.bytes)) v.on b length_given
+
+-- what it says to each call
+abbrev pub image_response : View → Call → Response View
+image_response v (reads b before) = unless (admitted v b (length before)) before v (record { answer = Ok tt; buffer = block v.bytes b; next = v })
+image_response v (writes b bytes) = unless (admitted v b (length bytes)) [] v (response (Ok tt) (record { bytes = splice v.bytes b bytes; on = v.on }))
+image_response v flushes = unless (powered Device v.on) [] v (response (Ok tt) v)
+image_response v restarts = response (Ok tt) (record { bytes = v.bytes; on = true })
 
 -- an image of this memory is off
 pub record Made (bytes : Vec ℕ) (r : Image) : Type 0 where

@@ -3,7 +3,7 @@
 use Rattle.std.proofs.Common.{◌≡◌, ℕ, ◌+◌, ◌<◌, Bool, true, false, List, sym, refl, ◌∙◌, ap, ⊎_elim, arith}
 use Rattle.std.proofs.lemmas.Bool.{cases_eq}
 use Rattle.stores.specs.Meanings.{Content, whole, torn, Meaning, Sound, Settled, Same, Cut, Written}
-use Rattle.mirrors.specs.Mirrors.{either, half, mirror_meaning, Paired}
+use Rattle.mirrors.specs.Mirrors.{either, half, mirror_meaning, Copies, Paired}
 use Rattle.mirrors.specs.Repairs.{Stored}
 use Rattle.stores.proofs.Sameness.{settled_same}
 use Rattle.mirrors.proofs.Mends.{half_same}
@@ -11,6 +11,13 @@ use Rattle.mirrors.proofs.Mends.{half_same}
 either_torn : (x y : Content) → torn ≡ either x y → (x ≡ torn) × (y ≡ torn)
 either_torn (whole xs) y e = let f : ⊥ = cc in absurd f
 either_torn torn y e = (refl, sym e)
+
+-- of two copies that read torn, both may be torn
+both_torn : (m n : Meaning) → n.size ≡ m.size → (b : ℕ) → b < half n → Copies n b torn → (b < half m) × n.stands b torn × n.stands (half m + b) torn
+both_torn m n e b h z =
+    let k : half n ≡ half m = half_same m n e in
+    let t = either_torn z.first z.second z.is in
+    (rw k at h, rw t.0 at z.at_first, rw (k, t.1) at z.at_second)
 
 -- What a mirror that is on says of the store below.
 module _ {m : Meaning} (p : Paired m) where
@@ -21,24 +28,20 @@ module _ {m : Meaning} (p : Paired m) where
         sound b h record { first = torn; second = torn; at_first = rw e at (p.settled.holds b (omega arith)); at_second = rw f at (p.settled.holds (half m + b) (omega arith)); is = refl }
 
     pub first_cut_sound : {n : Meaning} {a : ℕ} {bs : List ℕ} → a < half m → Cut m n (Written a bs) → Sound (mirror_meaning false n)
-    first_cut_sound {n} {a} l s b h z =
-        let k : half n ≡ half m = half_same m n s.size in
-        let t = either_torn z.first z.second z.is in
-        let g : b < half m = rw k at h in
-        let y : n.stands (half m + b) torn = rw (k, t.1) at z.at_second in
+    first_cut_sound {n} l s b h z =
+        let t = both_torn m n s.size b h z in
         ⊎_elim
-        (λ w. not_torn b g (p.agree b g ∙ sym (p.settled.only (half m + b) torn (omega arith) w)))
+        (λ w. not_torn b t.0 (p.agree b t.0 ∙ sym (p.settled.only (half m + b) torn (omega (arith, t.0)) w)))
         (λ w. omega (arith, w.0))
-        (s.stands (half m + b) torn (omega arith) y)
+        (s.stands (half m + b) torn (omega (arith, t.0)) t.2)
 
     module _ {k : Meaning} {a : ℕ} {bs : List ℕ} (s : Stored m k a bs) where
       -- where torn may stand at a first copy only if the first write left it there
       kept_sound : {n : Meaning} → n.size ≡ m.size → ((b : ℕ) → b < half m → n.stands b torn → torn ≡ k.reads b) → Sound (mirror_meaning true n)
       kept_sound {n} i f b h z =
-          let j : half n ≡ half m = half_same m n i in
-          let g : b < half m = rw j at h in
-          let t = either_torn z.first z.second z.is in
-          let e : torn ≡ k.reads b = f b g (rw t.0 at z.at_first) in
+          let t = both_torn m n i b h z in
+          let g : b < half m = t.0 in
+          let e : torn ≡ k.reads b = f b g t.1 in
           ⊎_elim
           (λ q. let x : k.reads b ≡ whole bs = rw q s.here in cc)
           (λ ne. not_torn b g (sym (s.others b (omega arith) ne) ∙ sym e))

@@ -1,4 +1,5 @@
 pub mod Views
 pub mod Mirrors
+pub mod Below
 pub mod Repairs
 pub mod Laws

@@ -22,5 +22,5 @@ impl<S: Store> Model for Mirror<S> {
 
     ghost view = { λ m. record { below = m.below; on = m.on } };
 
-    ghost invariant = { λ m. m.on ≡ true → Paired (S.Store.meaning m.below) };
+    ghost invariant = { λ m. m.on ≡ true → Paired (S.Store.meaning (S.Store.state m.below)) };
 }

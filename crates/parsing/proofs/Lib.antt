@@ -1,4 +1,2 @@
 pub mod Numbers
 pub mod Sequences
-pub mod Plans
-pub mod Readings

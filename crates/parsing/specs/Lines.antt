@@ -1,17 +1,14 @@
 -- What the words of one line say. Assumes nothing.
 use Rattle.std.specs.Prelude.{ℕ, cond, List, [], ◌∷◌, Some, None, Ok, Err, codes, Option, Result}
 use Rattle.std.specs.Str.{bytes_eq}
-use Rattle.parsing.specs.Numerals.{read_number, read_seed, read_offset}
+use Rattle.languages.specs.Expecting.{or_else, shown}
+use Rattle.words.specs.Numerals.{read_number}
+use Rattle.parsing.specs.Numerals.{read_seed, read_offset}
 use Rattle.script.specs.declared.commands.Command.TheVariants.{Insert, Slot, Report}
 use Rattle.parsing.specs.declared.forms.Line.{Line}
 use Rattle.parsing.specs.declared.forms.Line.TheVariants.{Reservoir, Asks}
 use Rattle.script.specs.declared.expectations.Expected.{Expected}
 use Rattle.script.specs.declared.expectations.Expected.TheVariants as expected
-
--- goes on with what a word says, or else tells what was expected of it
-abbrev pub or_else : {T : Type 0} → Option T → Expected → (T → Result Line Expected) → Result Line Expected
-or_else None e next = Err e
-or_else (Some x) e next = next x
 
 -- `reservoir` M SEED
 abbrev pub reservoir_of : List ℕ → List ℕ → Result Line Expected
@@ -67,12 +64,7 @@ read_command name words =
     (cond (bytes_eq name (codes "report")) (read_report words)
     (Err expected.CommandName))))
 
--- a line that has words has a command
-abbrev pub some_line : Result Line Expected → Result (Option Line) Expected
-some_line (Ok line) = Ok (Some line)
-some_line (Err e) = Err e
-
 -- a line, by its words: nothing where it has none
 abbrev pub read_line : List (List ℕ) → Result (Option Line) Expected
 read_line [] = Ok None
-read_line (name ∷ words) = some_line (read_command name words)
+read_line (name ∷ words) = shown Some (read_command name words)

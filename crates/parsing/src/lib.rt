@@ -5,6 +5,5 @@ mod forms;
 mod lines;
 mod numerals;
 mod parser;
-mod words;
 
 pub use parser::parse;

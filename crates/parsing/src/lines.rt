@@ -1,14 +1,14 @@
 ghost use Rattle.std.specs.Prelude.{◌≡◌};
 ghost use Rattle.failures.specs.Answers.{UnlessMemory};
 ghost use Rattle.parsing.specs.Lines.{read_reservoir, read_insert, read_slot, read_report, read_command, read_line};
-ghost use Rattle.parsing.specs.Words.{texts, words_of};
+ghost use Rattle.words.specs.Words.{texts, words_of};
 
 use crate::forms::Line;
-use crate::numerals::{self, number};
-use crate::words::words;
+use crate::numerals;
 use failures::Failure;
 use script::{Command, Expected};
 use std::alloc::Global;
+use words::{number, words};
 
 // The words after `reservoir`.
 fn reservoir(words: &[&str]) -> Result<Line, Expected>

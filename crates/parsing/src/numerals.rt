@@ -1,34 +1,14 @@
-ghost use Rattle.std.specs.Prelude.{◌≡◌, map};
-ghost use Rattle.std.specs.Option.{option_map};
-ghost use Rattle.parsing.specs.Numerals.{ReadsPlain, plain_word, read_seed};
+ghost use Rattle.std.specs.Prelude.{◌≡◌};
+ghost use Rattle.parsing.specs.Numerals.{read_seed};
 
-use std::str::FromStr;
-
-// The word, unless it begins with a plus sign, which the library would read past.
-fn plain(word: &str) -> Option<&str>
-    ensures { option_map (λ x. x.now) result ≡ plain_word word.now }
-{
-    if word.starts_with('+') {
-        return None;
-    }
-    Some(word)
-}
-
-// The decimal number that a word writes, if it is one of N: digits alone, behind a minus sign where N goes below 0.
-pub(crate) fn number<N: FromStr>(word: &str) -> Option<N>
-where
-    N::Err: Drop,
-    ensures { ReadsPlain N.from_str_gives word.now result }
-{
-    plain(word)?.parse::<N>().ok()
-}
+use words::{hexadecimal, number};
 
 // A seed: hexadecimal after 0x, and else decimal.
 pub(crate) fn seed(word: &str) -> Option<u64>
     ensures { result ≡ read_seed word.now }
 {
     match word.strip_prefix("0x") {
-        Some(digits) => u64::from_str_radix(plain(digits)?, 16).ok(),
+        Some(digits) => hexadecimal(digits),
         None => number(word),
     }
 }

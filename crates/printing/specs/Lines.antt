@@ -2,8 +2,7 @@
 use Rattle.std.specs.Prelude.{ℕ, cond, List, ◌++◌, length, ℤ, Some, None, codes, decimal, ◌==◌}
 use Rattle.std.specs.Fmt.{signed_decimal}
 use Rattle.std.specs.List.{flat_map}
-use Rattle.faults.specs.Numbers.{reason_number, layer_number}
-use Rattle.faults.specs.declared.faults.Fault.{Fault}
+use Rattle.faults.specs.Texts.{refusal_text}
 use Rattle.records.specs.Offsets.{Fields}
 use Rattle.script.specs.declared.commands.Command.{Command}
 use Rattle.script.specs.declared.commands.Command.TheVariants.{Insert, Slot, Report}
@@ -19,10 +18,6 @@ name_of Report = codes "report"
 -- a record: second, satellite and nanoseconds
 abbrev pub fields_text : Fields → List ℕ
 fields_text x = decimal x.0 ++ (codes " " ++ (decimal x.1 ++ (codes " " ++ signed_decimal x.2)))
-
--- a refusal: its number, its layer's and its place
-abbrev pub refusal_text : Fault → List ℕ
-refusal_text f = decimal (reason_number f.reason) ++ (codes " " ++ (decimal (layer_number f.layer) ++ (codes " " ++ decimal f.place)))
 
 -- a line for each filled slot
 abbrev pub row_text : ℕ × Fields → List ℕ

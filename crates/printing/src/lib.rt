@@ -3,4 +3,4 @@
 
 mod lines;
 
-pub use lines::{FaultNumbers, Said, name};
+pub use lines::{Said, name};

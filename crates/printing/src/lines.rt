@@ -1,9 +1,9 @@
 ghost use Rattle.std.specs.Prelude.{◌≡◌, map, Some};
 ghost use Rattle.records.specs.Offsets.{offset_fields};
 ghost use Rattle.scenarios.specs.Worked.{row_of, said};
-ghost use Rattle.printing.specs.Lines.{name_of, fields_text, refusal_text, rows_text, mean_line, report_text, reply_text};
+ghost use Rattle.printing.specs.Lines.{name_of, fields_text, rows_text, mean_line, report_text, reply_text};
 
-use faults::Fault;
+use faults::{Fault, FaultNumbers};
 use means::Mean;
 use records::Offset;
 use scenarios::{Answer, Report, Row};
@@ -36,25 +36,6 @@ impl fmt::Display for OffsetNumbers {
             offset.second.value(),
             offset.satellite.value(),
             offset.nanoseconds.value()
-        )
-    }
-}
-
-// A refusal as its three numbers, of other types than a record's.
-#[derive(Clone, Copy)]
-pub struct FaultNumbers(pub Fault);
-
-impl fmt::Display for FaultNumbers {
-    ghost output = { λ x. Some (refusal_text x.0) };
-
-    fn fmt<W: fmt::Write>(&self, f: &mut fmt::Formatter<W>) -> fmt::Result {
-        let FaultNumbers(fault) = self;
-        write!(
-            f,
-            "{} {} {}",
-            u8::from(fault.reason),
-            u8::from(fault.layer),
-            fault.place
         )
     }
 }

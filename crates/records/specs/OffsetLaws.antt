@@ -41,8 +41,12 @@ twelve r =
 pub read_back : (bs : List ℕ) → Twelve bs → slice_index bs 5 + slice_index bs 6 + slice_index bs 7 ≡ 0 → (r : Offset)
     → offset_fields r ≡ (four_at bs 0, slice_index bs 4, to_z w32 (four_at bs 8)) → offset_bytes r ≡ bs
 read_back bs t gap r e =
-    let small : four_at bs 8 < 2 ^ 32 = four_lt _ _ _ _ (t.small 8 (lit< tt)) (t.small 9 (lit< tt)) (t.small 10 (lit< tt)) (t.small 11 (lit< tt)) in
-    let last = four_of _ _ _ _ (t.small 8 (lit< tt)) (t.small 9 (lit< tt)) (t.small 10 (lit< tt)) (t.small 11 (lit< tt)) [] in
+    let a = t.small 8 (lit< tt) in
+    let b = t.small 9 (lit< tt) in
+    let c = t.small 10 (lit< tt) in
+    let d = t.small 11 (lit< tt) in
+    let small : four_at bs 8 < 2 ^ 32 = four_lt _ _ _ _ a b c d in
+    let last = four_of _ _ _ _ a b c d [] in
     let row = four_first bs t in
     ap fields_bytes e ∙ rw (of_z-to_z w32 (four_at bs 8) small, last) (grind arith)
 

@@ -1,6 +1,5 @@
--- How a refusal reads. Assumes nothing.
-use Rattle.std.specs.Prelude.{ℕ, List, ◌++◌, codes, decimal}
-use Rattle.script.specs.declared.expectations.BadLine.{BadLine}
+-- How an expectation reads. Assumes nothing.
+use Rattle.std.specs.Prelude.{ℕ, List, codes}
 use Rattle.script.specs.declared.expectations.Expected.{Expected}
 use Rattle.script.specs.declared.expectations.Expected.TheVariants.{CommandName, ReservoirFirst, ReservoirWords, InsertWords, SlotWords, ReportWords, Size, Seed, Second, Satellite, Offset, Slot}
 
@@ -18,7 +17,3 @@ expected_text Second = codes "expected SECOND from 0 to 4294967295"
 expected_text Satellite = codes "expected SATELLITE from 0 to 4294967295"
 expected_text Offset = codes "expected OFFSET from -2147483648 to 2147483647"
 expected_text Slot = codes "expected I from 0 to 65535"
-
--- the line's number in front of it
-abbrev pub bad_line_text : BadLine → List ℕ
-bad_line_text bad = codes "line " ++ (decimal bad.line ++ (codes ": " ++ expected_text bad.expected))

@@ -1,7 +1,6 @@
 ghost use Rattle.std.specs.Prelude.{Some};
-ghost use Rattle.script.specs.Texts.{expected_text, bad_line_text};
+ghost use Rattle.script.specs.Texts.{expected_text};
 
-use failures::Failure;
 use std::fmt;
 
 // What a bad line should have had.
@@ -21,15 +20,8 @@ pub enum Expected {
     Slot,
 }
 
-// A bad line: its number, counted from 1, and what was expected there.
-#[derive(Clone, Copy, Debug, PartialEq, Eq)]
-pub struct BadLine {
-    pub line: usize,
-    pub expected: Expected,
-}
-
-// Why a script was not read: its first bad line, or a want of memory, which says nothing of the script.
-pub type Unread = Failure<BadLine>;
+// Why a script was not read.
+pub type Unread = languages::Unread<Expected>;
 
 // What was expected, in the words of the language's own description.
 impl fmt::Display for Expected {
@@ -51,16 +43,5 @@ impl fmt::Display for Expected {
             Expected::Slot => "expected I from 0 to 65535",
         };
         f.write_str(text)
-    }
-}
-
-// The line's number goes first, as in a compiler's message.
-impl fmt::Display for BadLine {
-    ghost output = { λ x. Some (bad_line_text x) };
-
-    fn fmt<W: fmt::Write>(&self, f: &mut fmt::Formatter<W>) -> fmt::Result {
-        let line = self.line;
-        let expected = self.expected;
-        write!(f, "line {line}: {expected}")
     }
 }

@@ -5,4 +5,4 @@ mod commands;
 mod expectations;
 
 pub use commands::{Command, Scenario};
-pub use expectations::{BadLine, Expected, Unread};
+pub use expectations::{Expected, Unread};

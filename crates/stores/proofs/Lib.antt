@@ -1,3 +1,5 @@
 pub mod Places
 pub mod Sameness
+pub mod Sequences
+pub mod Determinacy
 pub mod Soundness

@@ -1,4 +1,5 @@
 pub mod Meanings
 pub mod Outcomes
 pub mod Admission
+pub mod Calls
 pub mod Places

@@ -3,14 +3,16 @@ use Rattle.std.specs.Prelude.{ℕ, cond, List, [], ◌++◌, Ok, Err, string_byt
 use Rattle.std.specs.List.{flat_map, zip}
 use Rattle.failures.specs.Answers.{UnlessMemory}
 use Rattle.failures.specs.declared.Failure.{Failure}
+use Rattle.faults.specs.Texts.{refusal_text}
 use Rattle.faults.specs.declared.faults.Fault.{Fault}
 use Rattle.faults.specs.declared.faults.Reason.TheVariants.{OutOfLimits}
 use Rattle.sampling.specs.Answers.{is_size, refusal}
 use Rattle.script.specs.declared.commands.Command.{Command}
-use Rattle.script.specs.declared.expectations.BadLine.{BadLine}
+use Rattle.languages.specs.declared.bad_lines.BadLine.{BadLine}
+use Rattle.script.specs.declared.expectations.Expected.{Expected}
 use Rattle.parsing.specs.Scripts.{Plan, read_script}
 use Rattle.scenarios.specs.Replies.{Reply, replies}
-use Rattle.printing.specs.Lines.{name_of, refusal_text, reply_text}
+use Rattle.printing.specs.Lines.{name_of, reply_text}
 
 -- a line for each command with its answer
 abbrev pub answers_text : List Command → List Reply → List ℕ
@@ -35,14 +37,14 @@ abbrev pub scenarios_text : List Plan → List ℕ
 scenarios_text plans = flat_map (λ p. scenario_text p.size p.seed p.commands) plans
 
 -- what is printed of a script that was read
-abbrev pub printed : Result (List Plan) BadLine → Result (List ℕ) BadLine
+abbrev pub printed : Result (List Plan) (BadLine Expected) → Result (List ℕ) (BadLine Expected)
 printed (Ok plans) = Ok (scenarios_text plans)
 printed (Err bad) = Err bad
 
 -- the whole program: from a script's text to what it prints, or to its first bad line
-abbrev pub transcript_of : List ℕ → Result (List ℕ) BadLine
+abbrev pub transcript_of : List ℕ → Result (List ℕ) (BadLine Expected)
 transcript_of script = printed (read_script script)
 
 -- r is that; a want of memory says nothing of the script
-abbrev pub Transcribed : {Z : Type 0} → List ℕ → Result (String Z) (Failure BadLine) → Type 0
+abbrev pub Transcribed : {Z : Type 0} → List ℕ → Result (String Z) (Failure (BadLine Expected)) → Type 0
 Transcribed script r = UnlessMemory (λ out. string_bytes out) (transcript_of script) r

@@ -4,8 +4,8 @@ ghost use Rattle.scenarios.specs.Worked.{said};
 ghost use Rattle.transcripts.specs.Transcripts.{answers_text, skipped_text, scenario_text};
 
 use failures::Failure;
-use faults::Fault;
-use printing::{FaultNumbers, Said, name};
+use faults::{Fault, FaultNumbers};
+use printing::{Said, name};
 use scenarios::{Answer, work};
 use script::{Command, Scenario, Unread};
 use std::alloc::Global;

@@ -2,8 +2,9 @@ ghost use Rattle.std.specs.Prelude.{◌≡◌, false};
 ghost use Rattle.faults.specs.declared.faults.Layer.TheVariants.{Device};
 ghost use Rattle.stores.specs.Meanings.{Steadily};
 ghost use Rattle.stores.specs.Outcomes.{ReadOutcome, WriteOutcome, FlushOutcome, RestartOutcome};
-ghost use Rattle.benches.specs.Benches.{meaning_of, written, flushed, awoken, Made};
-ghost use Rattle.benches.specs.Views.{allocation_of};
+ghost use Rattle.stores.specs.Calls.{reads, writes, flushes, restarts, response};
+ghost use Rattle.benches.specs.Benches.{meaning_of, bench_response, Made};
+ghost use Rattle.benches.specs.Views.{Contents, contents_of, allocation_of};
 ghost use Rattle.benches.specs.Lawful.{bench_lawful};
 
 use crate::benches::{Bench, Given};
@@ -52,7 +53,13 @@ impl Bench {
 
 // The trait's clauses stand again in each call, since a call that promises more has to repeat them.
 impl Store for Bench {
+    ghost State = { Contents };
+
+    ghost state = { contents_of };
+
     ghost meaning = { meaning_of };
+
+    ghost does = { λ v c r. r ≡ bench_response v c };
 
     ghost own = { Device };
 
@@ -67,9 +74,10 @@ impl Store for Bench {
     }
 
     fn read(&mut self, block: u32, buf: &mut [u8]) -> Result<(), Fault>
-        ensures outcome { ReadOutcome 504 Device Device (meaning_of self.old) (meaning_of self.new) block buf.old buf.new result }
-        ensures sound { Steadily false (meaning_of self.old) (meaning_of self.new) }
-        ensures after { self.new ≡ self.old }
+        ensures outcome { ReadOutcome 504 Device Device (meaning_of (contents_of self.old)) (meaning_of (contents_of self.new)) block buf.old buf.new result }
+        ensures sound { Steadily false (meaning_of (contents_of self.old)) (meaning_of (contents_of self.new)) }
+        ensures exact { record { answer = result; buffer = buf.new; next = contents_of self.new } ≡ bench_response (contents_of self.old) (reads block buf.old) }
+        ensures allocation { self.new.allocation ≡ self.old.allocation }
     {
         let on = self.supply.is_on();
         admit(Layer::Device, self.size(), on, block, buf.len())?;
@@ -80,9 +88,10 @@ impl Store for Bench {
     }
 
     fn write(&mut self, block: u32, bytes: &[u8]) -> Result<(), Fault>
-        ensures outcome { WriteOutcome 504 Device Device (meaning_of self.old) (meaning_of self.new) block bytes.now result }
-        ensures sound { Steadily false (meaning_of self.old) (meaning_of self.new) }
-        ensures after { self.new ≡ written self.old block bytes.now }
+        ensures outcome { WriteOutcome 504 Device Device (meaning_of (contents_of self.old)) (meaning_of (contents_of self.new)) block bytes.now result }
+        ensures sound { Steadily false (meaning_of (contents_of self.old)) (meaning_of (contents_of self.new)) }
+        ensures exact { response result (contents_of self.new) ≡ bench_response (contents_of self.old) (writes block bytes.now) }
+        ensures allocation { self.new.allocation ≡ self.old.allocation }
     {
         let on = self.supply.is_on();
         admit(Layer::Device, self.size(), on, block, bytes.len())?;
@@ -92,9 +101,10 @@ impl Store for Bench {
     }
 
     fn flush(&mut self) -> Result<(), Fault>
-        ensures outcome { FlushOutcome Device Device (meaning_of self.old) (meaning_of self.new) result }
-        ensures sound { Steadily false (meaning_of self.old) (meaning_of self.new) }
-        ensures after { self.new ≡ flushed self.old }
+        ensures outcome { FlushOutcome Device Device (meaning_of (contents_of self.old)) (meaning_of (contents_of self.new)) result }
+        ensures sound { Steadily false (meaning_of (contents_of self.old)) (meaning_of (contents_of self.new)) }
+        ensures exact { response result (contents_of self.new) ≡ bench_response (contents_of self.old) flushes }
+        ensures allocation { self.new.allocation ≡ self.old.allocation }
     {
         self.supply.spend()?;
         self.disk.settle();
@@ -102,9 +112,10 @@ impl Store for Bench {
     }
 
     fn restart(&mut self) -> Result<(), Fault>
-        ensures outcome { RestartOutcome Device (meaning_of self.old) (meaning_of self.new) result }
-        ensures sound { Steadily false (meaning_of self.old) (meaning_of self.new) }
-        ensures after { self.new ≡ awoken self.old }
+        ensures outcome { RestartOutcome Device (meaning_of (contents_of self.old)) (meaning_of (contents_of self.new)) result }
+        ensures sound { Steadily false (meaning_of (contents_of self.old)) (meaning_of (contents_of self.new)) }
+        ensures exact { response result (contents_of self.new) ≡ bench_response (contents_of self.old) restarts }
+        ensures allocation { self.new.allocation ≡ self.old.allocation }
     {
         self.disk.restart(&mut self.choices);
         self.supply.start();

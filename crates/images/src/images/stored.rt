@@ -1,8 +1,10 @@
-ghost use Rattle.std.specs.Prelude.{◌≡◌, true, refl};
+ghost use Rattle.std.specs.Prelude.{◌≡◌, true, vec_capacity, refl};
+ghost use Rattle.std.specs.Vec.{vec_ptr, vec_allocator};
 ghost use Rattle.faults.specs.declared.faults.Layer.TheVariants.{Device};
 ghost use Rattle.stores.specs.Meanings.{Steadily};
 ghost use Rattle.stores.specs.Outcomes.{ReadOutcome, WriteOutcome, FlushOutcome, RestartOutcome};
-ghost use Rattle.images.specs.Images.{meaning_of, memory_after, Made};
+ghost use Rattle.stores.specs.Calls.{reads, writes, flushes, restarts, response};
+ghost use Rattle.images.specs.Images.{View, view_of, meaning_of, image_response, memory_after, Made};
 ghost use Rattle.images.specs.Blocks.{image_lawful};
 
 use crate::images::Image;
@@ -28,7 +30,13 @@ impl Image {
 
 // The trait's clauses stand again in each call, since a call that promises more has to repeat them.
 impl Store for Image {
+    ghost State = { View };
+
+    ghost state = { view_of };
+
     ghost meaning = { meaning_of };
+
+    ghost does = { λ v c r. r ≡ image_response v c };
 
     ghost own = { Device };
 
@@ -44,8 +52,9 @@ impl Store for Image {
     }
 
     fn read(&mut self, block: u32, buf: &mut [u8]) -> Result<(), Fault>
-        ensures outcome { ReadOutcome 504 Device Device (meaning_of self.old) (meaning_of self.new) block buf.old buf.new result }
-        ensures sound { Steadily true (meaning_of self.old) (meaning_of self.new) }
+        ensures outcome { ReadOutcome 504 Device Device (meaning_of (view_of self.old)) (meaning_of (view_of self.new)) block buf.old buf.new result }
+        ensures sound { Steadily true (meaning_of (view_of self.old)) (meaning_of (view_of self.new)) }
+        ensures exact { record { answer = result; buffer = buf.new; next = view_of self.new } ≡ image_response (view_of self.old) (reads block buf.old) }
         ensures memory { self.new.bytes ≡ self.old.bytes }
     {
         admit(Layer::Device, self.size(), self.on, block, buf.len())?;
@@ -55,9 +64,13 @@ impl Store for Image {
     }
 
     fn write(&mut self, block: u32, bytes: &[u8]) -> Result<(), Fault>
-        ensures outcome { WriteOutcome 504 Device Device (meaning_of self.old) (meaning_of self.new) block bytes.now result }
-        ensures sound { Steadily true (meaning_of self.old) (meaning_of self.new) }
+        ensures outcome { WriteOutcome 504 Device Device (meaning_of (view_of self.old)) (meaning_of (view_of self.new)) block bytes.now result }
+        ensures sound { Steadily true (meaning_of (view_of self.old)) (meaning_of (view_of self.new)) }
+        ensures exact { response result (view_of self.new) ≡ image_response (view_of self.old) (writes block bytes.now) }
         ensures memory { self.new.bytes.items ≡ memory_after result self.old.bytes.items block bytes.now }
+        ensures place { vec_ptr self.new.bytes ≡ vec_ptr self.old.bytes }
+        ensures room { vec_capacity self.new.bytes ≡ vec_capacity self.old.bytes }
+        ensures heap { vec_allocator self.new.bytes ≡ vec_allocator self.old.bytes }
     {
         admit(Layer::Device, self.size(), self.on, block, bytes.len())?;
         let start = BLOCK_BYTES * block as usize;
@@ -66,16 +79,18 @@ impl Store for Image {
     }
 
     fn flush(&mut self) -> Result<(), Fault>
-        ensures outcome { FlushOutcome Device Device (meaning_of self.old) (meaning_of self.new) result }
-        ensures sound { Steadily true (meaning_of self.old) (meaning_of self.new) }
+        ensures outcome { FlushOutcome Device Device (meaning_of (view_of self.old)) (meaning_of (view_of self.new)) result }
+        ensures sound { Steadily true (meaning_of (view_of self.old)) (meaning_of (view_of self.new)) }
+        ensures exact { response result (view_of self.new) ≡ image_response (view_of self.old) flushes }
         ensures memory { self.new.bytes ≡ self.old.bytes }
     {
         powered(Layer::Device, self.on)
     }
 
     fn restart(&mut self) -> Result<(), Fault>
-        ensures outcome { RestartOutcome Device (meaning_of self.old) (meaning_of self.new) result }
-        ensures sound { Steadily true (meaning_of self.old) (meaning_of self.new) }
+        ensures outcome { RestartOutcome Device (meaning_of (view_of self.old)) (meaning_of (view_of self.new)) result }
+        ensures sound { Steadily true (meaning_of (view_of self.old)) (meaning_of (view_of self.new)) }
+        ensures exact { response result (view_of self.new) ≡ image_response (view_of self.old) restarts }
         ensures memory { self.new.bytes ≡ self.old.bytes }
     {
         self.on = true;

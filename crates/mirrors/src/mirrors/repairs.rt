@@ -1,6 +1,8 @@
 ghost use Rattle.std.specs.Prelude.{◌≡◌, ◌<◌, true};
 ghost use Rattle.stores.specs.Meanings.{Settled};
 ghost use Rattle.mirrors.specs.Mirrors.{half};
+ghost use Rattle.stores.specs.Calls.{InOrder};
+ghost use Rattle.mirrors.specs.Below.{storing, Probes, ReadsCopies, Repairs, Mends};
 ghost use Rattle.mirrors.specs.Repairs.{Ready, StoreOutcome, Probed, Twins, Both, RepairOutcome, MendOutcome};
 
 use faults::{Fault, Reason};
@@ -8,14 +10,15 @@ use stores::{BLOCK_BYTES, Store};
 
 // How many blocks a mirror over this store has: half of its blocks, rounded down.
 pub(crate) fn half<S: Store>(below: &S) -> u32
-    ensures { result ≡ half (S.Store.meaning below.now) }
+    ensures { result ≡ half (S.Store.meaning (S.Store.state below.now)) }
 {
     below.size() / 2
 }
 
 // Writes a block and settles it.
 pub(crate) fn put<S: Store>(below: &mut S, block: u32, bytes: &[u8]) -> Result<(), Fault>
-    ensures { Ready (S.Store.meaning below.old) block bytes.now → StoreOutcome S.Store.source (S.Store.meaning below.old) (S.Store.meaning below.new) block bytes.now result }
+    ensures outcome { Ready (S.Store.meaning (S.Store.state below.old)) block bytes.now → StoreOutcome S.Store.source (S.Store.meaning (S.Store.state below.old)) (S.Store.meaning (S.Store.state below.new)) block bytes.now result }
+    ensures exact { InOrder S.Store.does (S.Store.state below.old) (storing block bytes.now) result (S.Store.state below.new) }
 {
     below.write(block, bytes)?;
     below.flush()
@@ -23,7 +26,8 @@ pub(crate) fn put<S: Store>(below: &mut S, block: u32, bytes: &[u8]) -> Result<(
 
 // What a block reads: its bytes, or none if it is torn.
 fn probe<S: Store>(below: &mut S, block: u32) -> Result<Option<[u8; BLOCK_BYTES]>, Fault>
-    ensures { block < (S.Store.meaning below.old).size → (S.Store.meaning below.old).on ≡ true → Probed S.Store.source (S.Store.meaning below.old) (S.Store.meaning below.new) block result }
+    ensures outcome { block < (S.Store.meaning (S.Store.state below.old)).size → (S.Store.meaning (S.Store.state below.old)).on ≡ true → Probed S.Store.source (S.Store.meaning (S.Store.state below.old)) (S.Store.meaning (S.Store.state below.new)) block result }
+    ensures exact { Probes S.Store.does block (S.Store.state below.old) result (S.Store.state below.new) }
 {
     let mut bytes = [0u8; BLOCK_BYTES];
     match below.read(block, &mut bytes) {
@@ -39,12 +43,14 @@ fn probe<S: Store>(below: &mut S, block: u32) -> Result<Option<[u8; BLOCK_BYTES]
 }
 
 // What two copies read: the first, or the second if the first is torn; none if both are.
+#[tactic(auto, unfolding(crate::specs::Below::ReadsCopies))]
 pub(crate) fn probe_both<S: Store>(
     below: &mut S,
     first: u32,
     second: u32,
 ) -> Result<Option<[u8; BLOCK_BYTES]>, Fault>
-    ensures { Twins (S.Store.meaning below.old) first second → Both S.Store.source (S.Store.meaning below.old) (S.Store.meaning below.new) first second result }
+    ensures outcome { Twins (S.Store.meaning (S.Store.state below.old)) first second → Both S.Store.source (S.Store.meaning (S.Store.state below.old)) (S.Store.meaning (S.Store.state below.new)) first second result }
+    ensures exact { ReadsCopies S.Store.does first second (S.Store.state below.old) result (S.Store.state below.new) }
 {
     match probe(below, first)? {
         Some(bytes) => Ok(Some(bytes)),
@@ -53,12 +59,16 @@ pub(crate) fn probe_both<S: Store>(
 }
 
 // Makes two blocks alike. The first decides if it is whole: it was written first, so it is never older than the second.
+// Two arms have one body, since only the earlier of them knows that both are whole and differ.
+#[tactic(auto, unfolding(crate::specs::Below::Repairs))]
 fn repair<S: Store>(below: &mut S, first: u32, second: u32) -> Result<(), Fault>
-    ensures { Twins (S.Store.meaning below.old) first second → RepairOutcome S.Store.source (S.Store.meaning below.old) (S.Store.meaning below.new) first second result }
+    ensures outcome { Twins (S.Store.meaning (S.Store.state below.old)) first second → RepairOutcome S.Store.source (S.Store.meaning (S.Store.state below.old)) (S.Store.meaning (S.Store.state below.new)) first second result }
+    ensures exact { Repairs S.Store.does first second (S.Store.state below.old) result (S.Store.state below.new) }
 {
     match (probe(below, first)?, probe(below, second)?) {
         (Some(one), Some(two)) if one == two => Ok(()),
-        (Some(one), _) => put(below, second, &one),
+        (Some(one), Some(_)) => put(below, second, &one),
+        (Some(one), None) => put(below, second, &one),
         (None, Some(two)) => put(below, first, &two),
         (None, None) => Ok(()),
     }
@@ -66,8 +76,10 @@ fn repair<S: Store>(below: &mut S, first: u32, second: u32) -> Result<(), Fault>
 
 // Goes through the blocks in ascending order. A second copy that differs must not stay: a later write that tears the
 // first copy would bring it back.
+#[tactic(auto, unfolding(crate::specs::Below::Mends))]
 pub(crate) fn mend<S: Store>(below: &mut S) -> Result<(), Fault>
-    ensures { (S.Store.meaning below.old).on ≡ true → Settled (S.Store.meaning below.old) → MendOutcome S.Store.source (S.Store.meaning below.old) (S.Store.meaning below.new) result }
+    ensures outcome { (S.Store.meaning (S.Store.state below.old)).on ≡ true → Settled (S.Store.meaning (S.Store.state below.old)) → MendOutcome S.Store.source (S.Store.meaning (S.Store.state below.old)) (S.Store.meaning (S.Store.state below.new)) result }
+    ensures exact { Mends S.Store.does (half (S.Store.meaning (S.Store.state below.old))) (half (S.Store.meaning (S.Store.state below.old))) (S.Store.state below.old) result (S.Store.state below.new) }
 {
     let half = half(below);
     for block in 0..half { // block up to half - 1

@@ -1,6 +1,8 @@
 ghost use Rattle.std.specs.Prelude.{◌≡◌, true, false, refl};
 ghost use Rattle.faults.specs.declared.faults.Layer.TheVariants.{Mirror as MirrorLayer};
-ghost use Rattle.mirrors.specs.Mirrors.{mirror_meaning};
+ghost use Rattle.mirrors.specs.Mirrors.{half, mirror_meaning};
+ghost use Rattle.mirrors.specs.Views.{View};
+ghost use Rattle.mirrors.specs.Below.{mirror_does};
 ghost use Rattle.mirrors.specs.Laws.{mirror_lawful};
 
 use crate::mirrors::Mirror;
@@ -28,7 +30,13 @@ impl<S: Store> Mirror<S> {
 // Each call turns the mirror off, works below with `?`, and turns it on. No function does that around a closure: it
 // would have to say of any work what it leaves below, which is longer than the two lines.
 impl<S: Store> Store for Mirror<S> {
+    ghost State = { View S.Store.State };
+
+    ghost state = { λ s. record { below = S.Store.state s.below; on = s.on } };
+
     ghost meaning = { λ s. mirror_meaning s.on (S.Store.meaning s.below) };
+
+    ghost does = { mirror_does S.Store.meaning S.Store.does };
 
     ghost own = { MirrorLayer };
 
@@ -36,7 +44,7 @@ impl<S: Store> Store for Mirror<S> {
 
     ghost steady = { true };
 
-    ghost lawful = { λ s. mirror_lawful s.on (S.Store.meaning s.below) (S.Store.lawful s.below) };
+    ghost lawful = { λ s. mirror_lawful s.on (S.Store.meaning (S.Store.state s.below)) (S.Store.lawful s.below) };
 
     fn size(&self) -> u32 {
         half(&self.below)

@@ -1,6 +1,7 @@
 use Rattle.std.proofs.Common.{◌≡◌, rules}
 use Rattle.benches.specs.contracts.benches.Bench.{the_view}
-use Rattle.benches.proofs.Holds.{held_view}
+use Rattle.benches.specs.Views.{contents_of}
+use Rattle.benches.proofs.Holds.{held_response}
 use Rattle.benches.proofs.Outcomes.{write_outcome}
 use Rattle.benches.proofs.benches.stored.BenchStore.write.Goals as goal
 
@@ -12,7 +13,7 @@ returns-clause-outcome c =
     rw (← c.self.view_is, ← same_bytes c)
     (write_outcome _ _ _ _ _ _ _ _ (search rules) (search rules) c.self.inside.disk.inside c.spend.ensures.power c.hold.ensures.memory c.hold.ensures.held c.spend.ensures.value)
 
-pub returns-clause-after : goal.returns-clause-after
-returns-clause-after c =
+pub returns-clause-exact : goal.returns-clause-exact
+returns-clause-exact c =
     rw (← c.self.view_is, ← same_bytes c)
-    (held_view (the_view c.self.inside) _ _ _ _ _ _ (search rules) (search rules) c.hold.ensures.memory c.hold.ensures.allocation c.hold.ensures.held (search rules) c.spend.ensures.power)
+    (held_response (contents_of (the_view c.self.inside)) _ c.spend.result _ _ _ _ (search rules) c.spend.ensures.value c.hold.ensures.memory c.hold.ensures.held (search rules) c.spend.ensures.power)

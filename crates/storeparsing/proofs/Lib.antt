@@ -1,0 +1,4 @@
+pub mod Asked
+pub mod Limits
+pub mod Shapes
+pub mod Taken

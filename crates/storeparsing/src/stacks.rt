@@ -1,0 +1,54 @@
+ghost use Rattle.std.specs.Prelude.{◌≡◌};
+ghost use Rattle.storeparsing.specs.Stacks.{device_named, stack_of, read_stack};
+ghost use Rattle.words.specs.Numerals.{read_number};
+ghost use Rattle.words.specs.Words.{texts};
+
+use storescript::{Device, Expected, Stack};
+use words::number;
+
+// The device that a word names.
+fn device(word: &str) -> Option<Device>
+    ensures { result ≡ device_named word.now }
+{
+    match word {
+        "image" => Some(Device::Image),
+        "bench" => Some(Device::Bench),
+        _ => None,
+    }
+}
+
+// BLOCKS, as many as a store may have.
+#[tactic(auto, using(crate::proofs::Limits::no_number_within))]
+fn blocks(word: &str) -> Option<u32>
+    ensures { result ≡ read_number 10 65536 word.now }
+{
+    match number(word) {
+        Some(blocks) if blocks <= 65_536 => Some(blocks),
+        _ => None,
+    }
+}
+
+// A device's name and BLOCKS.
+fn on_device(mirrored: bool, name: &str, size: &str) -> Result<Stack, Expected>
+    ensures { result ≡ stack_of mirrored name.now size.now }
+{
+    let device = device(name).ok_or(Expected::StackWords)?;
+    let blocks = blocks(size).ok_or(Expected::Blocks)?;
+    Ok(Stack {
+        device,
+        mirrored,
+        blocks,
+    })
+}
+
+// The words after `stack`.
+#[tactic(auto, using(crate::proofs::Shapes::not_mirrored))]
+pub(crate) fn stack(words: &[&str]) -> Result<Stack, Expected>
+    ensures { result ≡ read_stack (texts words.now) }
+{
+    match words {
+        [device, blocks] => on_device(false, device, blocks),
+        ["mirror", device, blocks] => on_device(true, device, blocks),
+        _ => Err(Expected::StackWords),
+    }
+}
