@@ -1,11 +1,13 @@
 -- The figures that the definitions must give. Assumes nothing.
-use Rattle.std.specs.Prelude.{◌≡◌, ℕ, List, [], ◌∷◌, negsuc, Some, None, Ok, Err, Result}
+use Rattle.std.specs.Prelude.{◌≡◌, ℕ, List, [], ◌∷◌, ◌++◌, replicate, negsuc, Some, None, Ok, Err, Result}
 use Rattle.faults.specs.Numbers.{reason_number, layer_number}
 use Rattle.faults.specs.declared.faults.Fault.{Fault}
 use Rattle.records.specs.Offsets.{Fields, fields_bytes, offset_of, offset_wrong}
 use Rattle.records.specs.Reading.{read_as}
 use Rattle.benches.specs.Held.{settled, tore}
 use Rattle.benches.specs.Passes.{decided}
+use Rattle.layouts.specs.Shapes.{sample_blocks, blocks, shape_of}
+use Rattle.layouts.specs.Heads as heads
 use Rattle.sampling.specs.Draws.{draw_of, slot_of}
 use Rattle.sampling.specs.Samples.{sample_at}
 
@@ -28,6 +30,17 @@ last_bytes = 0x00 ∷ 0x09 ∷ 0x3A ∷ 0x7F ∷ 0x1F ∷ 0x00 ∷ 0x00 ∷ 0x00
 -- five records, each standing for its number
 abbrev pub five : List ℕ
 five = 1 ∷ 2 ∷ 3 ∷ 4 ∷ 5 ∷ []
+
+-- the head of five offset records after a refresh: two slots, the seed 0, one log block
+abbrev pub refreshed : heads.Fields
+refreshed = record { kind = 1; log_blocks = 1; size = 2; seed = 0; count = 5; entries = 0 }
+
+abbrev pub refreshed_front : List ℕ
+refreshed_front =
+    0x01 ∷ 0x00 ∷ 0x12 ∷ 0x01 ∷ 0x01 ∷ 0x00 ∷ 0x02 ∷ 0x00 ∷ 0x00 ∷ 0x00 ∷ 0x00 ∷ 0x00 ∷ 0x00 ∷ 0x00 ∷ 0x00 ∷ 0x00 ∷ 0x00 ∷ 0x00 ∷ 0x05 ∷ 0x00 ∷ 0x00 ∷ []
+
+abbrev pub refreshed_bytes : List ℕ
+refreshed_bytes = refreshed_front ++ replicate 483 0x00
 
 pub record Figures : Type 0 where
   -- draws of the seed 0
@@ -59,3 +72,14 @@ pub record Figures : Type 0 where
   pub choice_two : (b : ℕ) (memory write left : List ℕ) → decided b (write ∷ []) (record { mem = memory; left = 2 ∷ left }) ≡ record { mem = tore memory b; left = left }
   pub choice_three : (b : ℕ) (memory write left : List ℕ) → decided b (write ∷ []) (record { mem = memory; left = 3 ∷ left }) ≡ record { mem = memory; left = left }
   pub choice_past : (b : ℕ) (memory write : List ℕ) → decided b (write ∷ []) (record { mem = memory; left = [] }) ≡ record { mem = memory; left = [] }
+  -- how many blocks a sample takes, and which sizes it has
+  pub blocks_of_42 : sample_blocks 42 ≡ 1
+  pub blocks_of_43 : sample_blocks 43 ≡ 2
+  pub blocks_of_672 : sample_blocks 672 ≡ 16
+  pub size_zero : shown (shape_of 0 1) ≡ refused 3 3 0
+  pub size_673 : shown (shape_of 673 1) ≡ refused 3 3 673
+  pub all_blocks : blocks 43 1 ≡ 4
+  -- a head, in a store that has just the blocks of its sample, and in one with a block less
+  pub head_written : heads.fields_bytes refreshed ≡ refreshed_bytes
+  pub head_read : shown (heads.head_read 3 refreshed_bytes) ≡ accepted refreshed
+  pub head_refused : shown (heads.head_read 2 refreshed_bytes) ≡ refused 25 3 0
