@@ -9,6 +9,7 @@ use Rattle.std.proofs.lemmas.Bool.Decides.{nat_tests}
 use Rattle.std.proofs.lemmas.Slice.Eq.{bytes_eq-Decides}
 use Rattle.faults.specs.declared.faults.Fault.{Fault}
 use Rattle.records.specs.Reading.{shown_as}
+use Rattle.records.specs.Twelves.{four_back}
 use Rattle.layouts.specs.Heads.{Fields, head_fields, fields_bytes, head_bytes, fields_at, fills, keeps_limits, made_head, card_blocks, lawful_head, bad_head, head_read, IsHeadOf, own_read}
 use Rattle.layouts.specs.declared.heads.Head.{Head}
 use Rattle.layouts.specs.declared.shapes.Shape.{Shape}
@@ -19,9 +20,6 @@ two_back n h = omega arith
 
 four_low : (n : ℕ) → (n / 16777216 % 256) * 16777216 + (n / 65536 % 256) * 65536 + (n / 256 % 256) * 256 + n % 256 ≡ n % 4294967296
 four_low n = omega arith
-
-four_back : (n : ℕ) → n < 2 ^ 32 → (n / 16777216 % 256) * 16777216 + (n / 65536 % 256) * 65536 + (n / 256 % 256) * 256 + n % 256 ≡ n
-four_back n h = let e = four_low n in omega arith
 
 joined : (high low n : ℕ) → high ≡ n / 4294967296 → low ≡ n % 4294967296 → high * 4294967296 + low ≡ n
 joined high low n a b = omega arith

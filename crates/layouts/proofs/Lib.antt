@@ -1,1 +1,4 @@
 pub mod HeadLaws
+pub mod Spans
+pub mod SlotLaws
+pub mod EntryLaws

@@ -1,3 +1,5 @@
 pub mod Bytes
 pub mod Shapes
 pub mod Heads
+pub mod Slots
+pub mod Entries

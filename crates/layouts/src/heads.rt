@@ -5,12 +5,6 @@ pub mod codec;
 use crate::shapes::Shape;
 use std::alloc::AllocError;
 
-// The most records that are counted.
-pub const COUNT_LIMIT: u32 = 4_000_000_000;
-
-// How many entries a log block has.
-pub const BLOCK_ENTRIES: u16 = 31;
-
 // The first block of a sample: the code of its records' kind, its shape, the seed of its draws, how many records are
 // counted, and how many entries its log has.
 #[derive(Copy, PartialEq, Eq, Debug)]

@@ -4,9 +4,6 @@ pub mod making;
 
 use std::alloc::AllocError;
 
-// The most slots that a sample has.
-pub const SLOT_LIMIT: u16 = 672;
-
 // The most blocks that a log has.
 pub const LOG_LIMIT: u8 = 64;
 

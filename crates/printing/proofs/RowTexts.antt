@@ -3,7 +3,8 @@ use Rattle.std.proofs.Common.{◌≡◌, ℕ, List, ◌++◌, map, length, ℤ, 
 use Rattle.std.proofs.lemmas.List.{length-map}
 use Rattle.scenarios.specs.Worked.{row_of}
 use Rattle.scenarios.specs.declared.answers.Row.{Row}
-use Rattle.printing.specs.Lines.{rows_text, mean_line, report_text}
+use Rattle.sampletexts.specs.Lines.{mean_line}
+use Rattle.printing.specs.Lines.{rows_text, report_text}
 
 -- a report, from its parts as they lie in memory; the check finds this by itself, and docs/PORT.md names it
 pub report_text_lem : (count : ℕ) (slice items : List Row) (n : ℕ) (stored sum : ℤ) → slice ≡ items → n ≡ length items → stored ≡ sum

@@ -1,13 +1,12 @@
 -- What is printed of a command and its answer. Assumes nothing.
-use Rattle.std.specs.Prelude.{ℕ, cond, List, ◌++◌, length, ℤ, Some, None, codes, decimal, ◌==◌}
-use Rattle.std.specs.Fmt.{signed_decimal}
+use Rattle.std.specs.Prelude.{ℕ, List, ◌++◌, length, ℤ, Some, None, codes, decimal}
 use Rattle.std.specs.List.{flat_map}
 use Rattle.faults.specs.Texts.{refusal_text}
 use Rattle.records.specs.Offsets.{Fields}
 use Rattle.script.specs.declared.commands.Command.{Command}
 use Rattle.script.specs.declared.commands.Command.TheVariants.{Insert, Slot, Report}
 use Rattle.scenarios.specs.Replies.{Reply, inserted, found, told, refused}
-use Rattle.means.specs.Means.{mean_text}
+use Rattle.sampletexts.specs.Lines.{offset_text, slot_text, mean_line}
 
 -- a command's first word
 abbrev pub name_of : Command → List ℕ
@@ -15,20 +14,12 @@ name_of (Insert second satellite nanoseconds) = codes "insert"
 name_of (Slot i) = codes "slot"
 name_of Report = codes "report"
 
--- a record: second, satellite and nanoseconds
-abbrev pub fields_text : Fields → List ℕ
-fields_text x = decimal x.0 ++ (codes " " ++ (decimal x.1 ++ (codes " " ++ signed_decimal x.2)))
-
 -- a line for each filled slot
 abbrev pub row_text : ℕ × Fields → List ℕ
-row_text x = codes "slot " ++ (decimal x.0 ++ (codes ": " ++ (fields_text x.1 ++ codes "\n")))
+row_text x = slot_text x.0 (offset_text x.1) ++ codes "\n"
 
 abbrev pub rows_text : List (ℕ × Fields) → List ℕ
 rows_text xs = flat_map row_text xs
-
--- the mean and how many records it is over, or none
-abbrev pub mean_line : ℤ → ℕ → List ℕ
-mean_line sum n = cond (n == 0) (codes "mean none") (codes "mean " ++ (mean_text sum n ++ (codes " ns over " ++ decimal n)))
 
 abbrev pub report_text : ℕ → List (ℕ × Fields) → ℤ → List ℕ
 report_text count rows sum = codes "counted " ++ (decimal count ++ (codes "\n" ++ (rows_text rows ++ mean_line sum (length rows))))
@@ -37,6 +28,6 @@ report_text count rows sum = codes "counted " ++ (decimal count ++ (codes "\n" +
 abbrev pub reply_text : Command → Reply → List ℕ
 reply_text c (inserted (Some slot)) = name_of c ++ (codes " ok " ++ decimal slot)
 reply_text c (inserted None) = name_of c ++ codes " ok none"
-reply_text c (found x) = name_of c ++ (codes " ok " ++ fields_text x)
+reply_text c (found x) = name_of c ++ (codes " ok " ++ offset_text x)
 reply_text c (told count rows sum) = report_text count rows sum
 reply_text c (refused f) = name_of c ++ (codes " refused " ++ refusal_text f)

@@ -1,11 +1,10 @@
 ghost use Rattle.std.specs.Prelude.{◌≡◌, map, Some};
-ghost use Rattle.records.specs.Offsets.{offset_fields};
 ghost use Rattle.scenarios.specs.Worked.{row_of, said};
-ghost use Rattle.printing.specs.Lines.{name_of, fields_text, rows_text, mean_line, report_text, reply_text};
+ghost use Rattle.printing.specs.Lines.{name_of, rows_text, report_text, reply_text};
 
 use faults::{Fault, FaultNumbers};
 use means::Mean;
-use records::Offset;
+use sampletexts::{MeanLine, OffsetNumbers, SlotLine};
 use scenarios::{Answer, Report, Row};
 use script::Command;
 use std::fmt;
@@ -21,25 +20,6 @@ pub fn name(command: Command) -> &'static str
     }
 }
 
-// A record as its three numbers. They are of other types than a refusal's three, so each writes its own.
-#[derive(Clone, Copy)]
-struct OffsetNumbers(Offset);
-
-impl fmt::Display for OffsetNumbers {
-    ghost output = { λ x. Some (fields_text (offset_fields x.0)) };
-
-    fn fmt<W: fmt::Write>(&self, f: &mut fmt::Formatter<W>) -> fmt::Result {
-        let OffsetNumbers(offset) = self;
-        write!(
-            f,
-            "{} {} {}",
-            offset.second.value(),
-            offset.satellite.value(),
-            offset.nanoseconds.value()
-        )
-    }
-}
-
 // A line for each filled slot. A loop of its own, since what is written of a row is made on the way and no slice of it
 // exists.
 #[derive(Drop)]
@@ -50,25 +30,11 @@ impl fmt::Display for Rows<'_> {
 
     fn fmt<W: fmt::Write>(&self, f: &mut fmt::Formatter<W>) -> fmt::Result {
         for row in self.0 {
-            writeln!(f, "slot {}: {}", row.slot, OffsetNumbers(row.offset))?;
+            let slot = usize::from(row.slot);
+            let record = OffsetNumbers(row.offset);
+            writeln!(f, "{}", SlotLine { slot, record })?;
         }
         Ok(())
-    }
-}
-
-// The mean, and over how many records.
-#[derive(Clone, Copy)]
-struct Over(Mean);
-
-impl fmt::Display for Over {
-    ghost output = { λ x. Some (mean_line x.0.sum x.0.count) };
-
-    fn fmt<W: fmt::Write>(&self, f: &mut fmt::Formatter<W>) -> fmt::Result {
-        let Over(mean) = self;
-        if mean.count == 0 {
-            return f.write_str("mean none");
-        }
-        write!(f, "mean {mean} ns over {}", mean.count)
     }
 }
 
@@ -82,11 +48,11 @@ impl fmt::Display for Whole<'_> {
     fn fmt<W: fmt::Write>(&self, f: &mut fmt::Formatter<W>) -> fmt::Result {
         let Whole(report) = self;
         let rows = Rows(report.rows.as_slice());
-        let over = Over(Mean {
+        let mean = MeanLine(Mean {
             sum: report.sum,
             count: report.rows.len() as u64,
         });
-        write!(f, "counted {}\n{rows}{over}", report.count)
+        write!(f, "counted {}\n{rows}{mean}", report.count)
     }
 }
 

@@ -3,4 +3,4 @@
 
 mod reservoirs;
 
-pub use reservoirs::{COUNT_LIMIT, Reservoir, SLOT_LIMIT};
+pub use reservoirs::Reservoir;

@@ -3,14 +3,7 @@ ghost use Rattle.std.specs.Prelude.{◌<◌, ◌≤◌};
 pub mod keeping;
 pub mod measures;
 
-// The most slots that a sample has.
-pub const SLOT_LIMIT: u16 = 672;
-
-// The same as a length: a reservoir has a row for each slot that a sample can have.
-pub const ROWS: usize = SLOT_LIMIT as usize;
-
-// The most records that are counted.
-pub const COUNT_LIMIT: u32 = 4_000_000_000;
+use sampling::ROWS;
 
 // Algorithm R's sample of the records inserted so far. Its memory is that of a full sample from the start, so that
 // an insert allocates nothing and takes the same few steps whatever the size is. Which records it keeps the sample of

@@ -4,6 +4,15 @@
 ghost use Rattle.std.specs.Prelude.{◌≡◌, ◌<◌, IfSome};
 ghost use Rattle.sampling.specs.Draws.{draw_of, slot_of, within};
 
+// The most slots that a sample has.
+pub const SLOT_LIMIT: u16 = 672;
+
+// The same as a length: whoever keeps a sample in memory has a row for each slot that a sample can have.
+pub const ROWS: usize = SLOT_LIMIT as usize;
+
+// The most records that are counted.
+pub const COUNT_LIMIT: u32 = 4_000_000_000;
+
 // SplitMix64's increment and multipliers.
 const GAMMA: u64 = 0x9E37_79B9_7F4A_7C15;
 

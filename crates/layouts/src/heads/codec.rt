@@ -3,11 +3,13 @@ ghost use Rattle.std.specs.Option.{option_map};
 ghost use Rattle.records.specs.Reading.{shown_as};
 ghost use Rattle.layouts.specs.Heads.{front, head_fields, head_bytes, fields_at, fills, made_head, head_read, IsHeadOf, own_read};
 
-use crate::heads::{BLOCK_ENTRIES, COUNT_LIMIT, Head};
+use crate::entries::BLOCK_ENTRIES;
+use crate::heads::Head;
 use crate::shapes::Shape;
 use faults::Fault;
 use faults::Layer::Sampler;
 use faults::Reason::BadHead;
+use sampling::COUNT_LIMIT;
 use stores::BLOCK_BYTES;
 
 // The layout's version.

@@ -2,13 +2,12 @@ ghost use Rattle.std.specs.Prelude.{◌≡◌};
 ghost use Rattle.records.specs.Reading.{shown_as};
 ghost use Rattle.layouts.specs.Shapes.{sample_blocks, blocks, shape_fields, shape_of};
 
-use crate::shapes::{LOG_LIMIT, SLOT_LIMIT, Shape};
+use crate::shapes::{LOG_LIMIT, Shape};
+use crate::slots::BLOCK_SLOTS;
 use faults::Fault;
 use faults::Layer::Sampler;
 use faults::Reason::OutOfLimits;
-
-// How many slots a sample block has.
-const BLOCK_SLOTS: u32 = 42;
+use sampling::SLOT_LIMIT;
 
 impl Shape {
     // A sample of this size with a log of so many blocks, or the refusal of the first that is out of its limits.
@@ -28,7 +27,7 @@ impl Shape {
     pub fn sample_blocks(self) -> u32
         ensures { result ≡ sample_blocks self.size }
     {
-        u32::from(self.size).div_ceil(BLOCK_SLOTS)
+        u32::from(self.size.div_ceil(BLOCK_SLOTS))
     }
 
     // How many blocks the sample takes: its head, its sample blocks and its log.

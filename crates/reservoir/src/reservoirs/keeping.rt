@@ -3,12 +3,12 @@ ghost use Rattle.sampling.specs.Answers.{insert_answer, slot_answer, counted};
 ghost use Rattle.sampling.specs.Samples.{Holds, SampleLaw};
 ghost use Rattle.reservoir.specs.Keeps.{Keeps, OfKept, Made, placed};
 
-use crate::reservoirs::{COUNT_LIMIT, ROWS, Reservoir, SLOT_LIMIT};
+use crate::reservoirs::Reservoir;
 use faults::Fault;
 use faults::Layer::Sampler;
 use faults::Reason::{CountAtLimit, EmptySlot, NoSuchSlot, OutOfLimits};
 use records::RecordKind;
-use sampling::slot_of;
+use sampling::{COUNT_LIMIT, ROWS, SLOT_LIMIT, slot_of};
 
 // Puts a record into its slot, if it has one.
 fn place<K: RecordKind>(rows: &mut [Option<K>; ROWS], slot: Option<u16>, kept: K)

@@ -1,0 +1,90 @@
+use crate::handmade::logged_card;
+use benches::{Bench, Given};
+use faults::{Fault, Layer, Reason};
+use mirrors::Mirror;
+use records::Offset;
+use samplers::Asleep;
+use std::alloc::{AllocError, Global};
+use std::test::Fail;
+
+// A bench's memory for the card's three blocks, of which one is torn, behind what is there.
+fn copy(bytes: &mut Vec<u8>, card: &[u8], torn: usize) -> Result<(), AllocError> {
+    for (i, block) in card.chunks_exact(504).enumerate() {
+        bytes.extend_from_slice(block)?;
+        bytes.push(u8::from(i == torn))?;
+    }
+    Ok(())
+}
+
+// The memory of a bench of six blocks with this card twice, the copies of one block torn.
+fn torn_twice(heap: Global, torn: usize) -> Result<Vec<u8>, AllocError> {
+    let card = logged_card(heap)?;
+    let mut bytes = Vec::new(heap);
+    copy(&mut bytes, &card, torn)?;
+    copy(&mut bytes, &card, torn)?;
+    Ok(bytes)
+}
+
+fn bench(heap: Global, bytes: Vec<u8>, fuses: &[u32], choices: &[u8]) -> Result<Bench, AllocError> {
+    let given = Given {
+        bytes,
+        fuses: fuses.to_vec(heap)?,
+        choices: choices.to_vec(heap)?,
+    };
+    Bench::new(heap, given).map_err(|_given| AllocError)
+}
+
+// A block of which both copies are torn is refused by the mirror, at the place where the mount comes to it.
+#[test]
+fn torn_block_refuses_the_mount(rt: HostRuntime) -> Result<(), Fail> {
+    let heap = rt.alloc();
+    for block in 0..3u8 {
+        let mirror = Mirror::new(bench(heap, torn_twice(heap, usize::from(block))?, &[], &[])?);
+        let mut asleep: Asleep<Mirror<Bench>, Offset> = Asleep::new(mirror);
+        let fault = Fault {
+            reason: Reason::Torn,
+            layer: Layer::Mirror,
+            place: u64::from(block),
+        };
+        assert_eq!(rt; asleep.mount(), Err(fault), "block {block}");
+    }
+    Ok(())
+}
+
+// A format that is cut in any of its writes and flushes below leaves no head, or the whole card.
+#[test]
+fn cut_format_leaves_no_head_or_the_whole_card(rt: HostRuntime) -> Result<(), Fail> {
+    let heap = rt.alloc();
+    let supply_failed = Fault {
+        reason: Reason::Off,
+        layer: Layer::Device,
+        place: 0,
+    };
+    let no_head = Fault {
+        reason: Reason::BadHead,
+        layer: Layer::Sampler,
+        place: 0,
+    };
+    // Fifteen calls below: three blocks written and settled twice each, and three flushes of the sampler's own.
+    for fuse in 0..15 {
+        for choice in 0..3 {
+            let memory = torn_twice(heap, 3)?;
+            let mirror = Mirror::new(bench(heap, memory, &[fuse], &[choice, choice])?);
+            let mut asleep: Asleep<Mirror<Bench>, Offset> = Asleep::new(mirror);
+            assert_eq!(rt;
+                asleep.format(2, 1, 0),
+                Err(supply_failed),
+                "{fuse} {choice}"
+            );
+            let mounted = asleep.mount();
+            let fine = mounted == Err(no_head)
+                || mounted == Ok(0)
+                || (fuse < 4 && mounted == Ok(5));
+            assert_eq!(rt; fine, true, "{fuse} {choice}");
+        }
+    }
+    let mirror = Mirror::new(bench(heap, torn_twice(heap, 3)?, &[15], &[])?);
+    let mut asleep: Asleep<Mirror<Bench>, Offset> = Asleep::new(mirror);
+    assert_eq!(rt; asleep.format(2, 1, 0), Ok(()));
+    Ok(())
+}

@@ -1,0 +1,5 @@
+pub mod Cards
+pub mod Verdicts
+pub mod Memories
+pub mod Lawful
+pub mod Progress

@@ -1,0 +1,3 @@
+pub mod Hexadecimals
+pub mod SlotTexts
+pub mod SumLaws

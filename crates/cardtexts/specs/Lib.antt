@@ -1,0 +1,3 @@
+pub mod Texts
+pub mod Refusals
+pub mod Kinds

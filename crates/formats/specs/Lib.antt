@@ -1,0 +1,2 @@
+pub mod Fills
+pub mod Formats

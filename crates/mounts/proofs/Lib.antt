@@ -1,0 +1,3 @@
+pub mod ReadCalls
+pub mod Parts
+pub mod Restarts

@@ -1,0 +1,18 @@
+use Rattle.std.proofs.Common.{Ok}
+use Rattle.stores.specs.Meanings.{Same}
+use Rattle.stores.specs.Outcomes.{Answer}
+use Rattle.layouts.specs.Heads.{head_fields}
+use Rattle.cards.specs.Cards.{Card}
+use Rattle.mounts.specs.Parts.{Holds, LogHas, ReadsOnly}
+use Rattle.mounts.proofs.logs.read_log.Given as goal
+
+abbrev pub invariant-loop-position : goal.invariant-loop-position
+invariant-loop-position g l =
+    let m = g.S.Store.meaning (g.S.Store.state l.initial.store) in
+    let n = g.S.Store.meaning (g.S.Store.state l.store) in
+    let h = head_fields l.head in
+    let done : Answer = Ok tt in
+    record {
+      calls : ReadsOnly g.S.Store.does (g.S.Store.state l.initial.store) done (g.S.Store.state l.store);
+      outcome : (card : Card) → Holds m h card → Same m n × LogHas g.S.Store.own g.K.RecordKind.wrong h card l.position l.log;
+    }

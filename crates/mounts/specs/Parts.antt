@@ -1,0 +1,82 @@
+-- What the parts of a mount do, which read a store and change nothing. Assumes nothing.
+use Rattle.std.specs.Prelude.{◌≡◌, ℕ, ◌+◌, ◌<◌, ◌≤◌, Bool, true, false, ◌⊎◌, List, map, Ok, Err, Option, Result, MatchResult, ⊤}
+use Rattle.faults.specs.declared.faults.Fault.{Fault}
+use Rattle.faults.specs.declared.faults.Layer.{Layer}
+use Rattle.stores.specs.Calls.{Call, Response, InOrder}
+use Rattle.stores.specs.Meanings.{whole, Meaning, Same, Nothing}
+use Rattle.stores.specs.Outcomes.{Answer, Failed}
+use Rattle.layouts.specs.Heads.{Fields, head_fields, card_blocks}
+use Rattle.layouts.specs.declared.heads.Head.{Head}
+use Rattle.cards.specs.Cards.{Card, filled}
+use Rattle.cards.specs.Memories.{Memory, Remembers}
+use Rattle.cards.specs.Progress.{LogRead, Flagged, RowsLaid, RowsRead, SlotsRead}
+use Rattle.cards.specs.Verdicts.{read_at, head_of, each, entry_check, slot_check, mount_of}
+use Rattle.mounts.specs.declared.logs.Log.{Log}
+use Rattle.mounts.specs.Mounts.{reading}
+
+-- a store that is on, and whose blocks read as the card's
+pub record Shows (m : Meaning) (card : Card) : Type 0 where
+  pub on : m.on ≡ true
+  pub reads : (b : ℕ) → b < m.size → m.reads b ≡ card b
+
+-- a store that shows the card, with room for the sample of this head
+pub record Holds (m : Meaning) (h : Fields) (card : Card) : Type 0 where
+  pub shows : Shows m card
+  pub room : card_blocks h ≤ m.size
+
+-- a refusal: nothing changed, and the check answers this fault; or the supply failed
+abbrev pub Refused : {A : Type 0} → Layer → Meaning → Meaning → Result A Fault → Fault → Type 0
+Refused source m n check e = (Same m n × (check ≡ Err e)) ⊎ Failed source m n Nothing e
+
+-- a part that is accepted changed nothing, and this holds; one that is refused is refused by its check
+abbrev pub PartOutcome : {A X : Type 0} → Layer → Meaning → Meaning → Result A Fault → (X → Type 0) → Result X Fault → Type 0
+PartOutcome source m n check holds (Ok x) = Same m n × holds x
+PartOutcome source m n check holds (Err e) = Refused source m n check e
+
+-- Each part says what it does of whatever card the store shows.
+
+-- block b is in the buffer: it was read, unless it was there
+abbrev pub FetchOutcome : Layer → Layer → Meaning → Meaning → ℕ → Bool → List ℕ → List ℕ → Answer → Type 0
+FetchOutcome own source m n b is_new before after r =
+    (card : Card) → Shows m card → b < m.size → (is_new ≡ false → card b ≡ whole before) → PartOutcome source m n (read_at own b (card b)) (λ done. card b ≡ whole after) r
+
+abbrev pub HeadOutcome : Layer → Layer → ℕ → Meaning → Meaning → Result Head Fault → Type 0
+HeadOutcome own source code m n r =
+    (card : Card) → Shows m card → PartOutcome source m n (head_of own m.size code card) (λ h. head_of own m.size code card ≡ Ok (head_fields h)) r
+
+-- the first i entries are right, and are in the log
+abbrev pub LogHas : Layer → (List ℕ → Option ℕ) → Fields → Card → ℕ → Log → Type 0
+LogHas own wrong h card i log = LogRead own wrong h card i log.rows log.logged log.work log.last
+
+abbrev pub EntryOutcome : Layer → Layer → (List ℕ → Option ℕ) → Fields → Meaning → Meaning → ℕ → Log → Log → Answer → Type 0
+EntryOutcome own source wrong h m n i before after r =
+    (card : Card) → Holds m h card → i < h.entries → LogHas own wrong h card i before
+    → PartOutcome source m n (entry_check own wrong h card i) (λ done. LogHas own wrong h card (i + 1) after) r
+
+abbrev pub LogOutcome : Layer → Layer → (List ℕ → Option ℕ) → Fields → Meaning → Meaning → Result Log Fault → Type 0
+LogOutcome own source wrong h m n r =
+    (card : Card) → Holds m h card → PartOutcome source m n (each (entry_check own wrong h card) h.entries) (λ log. LogHas own wrong h card h.entries log) r
+
+abbrev pub SlotOutcome : Layer → Layer → (List ℕ → Option ℕ) → Meaning → Meaning → ℕ → List Bool → List (List ℕ) → List ℕ → List (List ℕ) → List ℕ → Answer → Type 0
+SlotOutcome own source wrong m n s flags rows block rows_after block_after r =
+    (h : Fields) (card : Card) → Holds m h card → s < h.size → Flagged h card flags → SlotsRead own wrong h card s rows block
+    → PartOutcome source m n (slot_check own wrong h card s) (λ done. SlotsRead own wrong h card (s + 1) rows_after block_after) r
+
+abbrev pub SlotsOutcome : Layer → Layer → (List ℕ → Option ℕ) → Fields → Meaning → Meaning → List Bool → List (List ℕ) → List (List ℕ) → Answer → Type 0
+SlotsOutcome own source wrong h m n flags before after r =
+    (card : Card) → Holds m h card → Flagged h card flags → RowsLaid h card before
+    → PartOutcome source m n (each (slot_check own wrong h card) (filled h)) (λ done. RowsRead own wrong h card (filled h) after) r
+
+-- a card that mounts, and is remembered
+abbrev pub Mounted : Layer → ℕ → ℕ → (List ℕ → Option ℕ) → Card → Memory → Type 0
+Mounted own store code wrong card t = (mount_of own store code wrong card ≡ Ok t.head) × Remembers t.head card t
+
+pub record CardOutcome (own source : Layer) (code : ℕ) (wrong : List ℕ → Option ℕ) (m n : Meaning) (r : Result Memory Fault) : Type 0 where
+  pub each_card : (card : Card) → Shows m card → PartOutcome source m n (mount_of own m.size code wrong card) (Mounted own m.size code wrong card) r
+
+-- only reads were made, in order; a fault that one of them is answered is the answer
+pub record ReadsOnly {S X : Type 0} (does : S → Call → Response S → Type 0) (s : S) (answer : Result X Fault) (t : S) : Type 0 where
+  pub blocks : List (ℕ × List ℕ)
+  pub last : Answer
+  pub made : InOrder does s (map reading blocks) last t
+  pub fault : MatchResult last (λ done. ⊤) (λ e. answer ≡ Err e)
