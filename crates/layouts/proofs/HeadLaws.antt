@@ -29,7 +29,7 @@ same_fields : (a b : Fields) → a.kind ≡ b.kind → a.log_blocks ≡ b.log_bl
 same_fields a b k l m s n c = λ i. record { kind = k i; log_blocks = l i; size = m i; seed = s i; count = n i; entries = c i }
 
 -- a head's bytes have its fields at their places
-fields_back : (h : Head) → fields_at (head_bytes h) ≡ head_fields h
+pub fields_back : (h : Head) → fields_at (head_bytes h) ≡ head_fields h
 unfolding fields_bytes
 fields_back h =
     let most = h.shape.most in
@@ -94,7 +94,7 @@ all_three : (a b c : Bool) → a ≡ true → b ≡ true → (a && (b && c)) ≡
 all_three a b c p q = rw (p, q) refl
 
 -- a head's own block is lawful where the sample has room
-own_lawful : (store : ℕ) (h : Head) → lawful_head store (head_bytes h) ≡ leb (card_blocks (head_fields h)) store
+pub own_lawful : (store : ℕ) (h : Head) → lawful_head store (head_bytes h) ≡ leb (card_blocks (head_fields h)) store
 own_lawful store h =
     lawful_by store (head_bytes h) (head_fields h) (fields_back h)
     ∙ all_three _ _ _ (limits_kept h) ((bytes_eq-Decides (head_bytes h) (head_bytes h)).1 refl)
@@ -159,3 +159,8 @@ kept_read store bs None p e f =
 kept_read store bs (Some h) p e f =
     some_cases h (fields_at bs) (fills store bs) _ f.0 p (head_read store bs)
     (ap (λ (b : Bool). cond b (Ok (fields_at bs)) (Err bad_head)) (lawful_by store bs (fields_at bs) refl)) e f.1 f.2
+
+-- a head's own block reads as that head where the sample has room
+pub read_back : (store : ℕ) (h : Head) → card_blocks (head_fields h) ≤ store → head_read store (head_bytes h) ≡ Ok (head_fields h)
+read_back store h room =
+    ap (λ (b : Bool). cond b (Ok (fields_at (head_bytes h))) (Err bad_head)) (own_lawful store h ∙ le-leb _ _ room) ∙ ap Ok (fields_back h)

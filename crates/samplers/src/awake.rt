@@ -1,4 +1,5 @@
 pub mod calls;
+pub mod working;
 
 use records::RecordKind;
 use samples::Sample;

@@ -1,5 +1,5 @@
 -- A sample of no records, and what the slots of a sample answer. Assumes nothing.
-use Rattle.std.specs.Prelude.{ℕ, false, cond, List, [], Ok, Err, Result, nat_lt, slice_index_or, replicate}
+use Rattle.std.specs.Prelude.{◌≡◌, ℕ, false, cond, List, length, [], Ok, Err, Result, nat_lt, slice_index_or, replicate}
 use Rattle.faults.specs.declared.faults.Fault.{Fault}
 use Rattle.faults.specs.declared.faults.Reason.TheVariants.{NoSuchSlot, EmptySlot}
 use Rattle.sampling.specs.Answers.{refusal}
@@ -25,3 +25,9 @@ blank_memory code size log_blocks seed = record {
 abbrev pub slot_read : Memory → ℕ → Result (List ℕ) Fault
 slot_read t s =
     cond (nat_lt s t.head.size) (cond (nat_lt s (filled t.head)) (Ok (slice_index_or t.rows s [])) (Err (refusal EmptySlot s))) (Err (refusal NoSuchSlot s))
+
+-- the lists in memory are as long as the arrays that they are
+pub record Arrays (t : Memory) : Type 0 where
+  pub rows : length t.rows ≡ 672
+  pub flags : length t.logged ≡ 672
+  pub work : length t.work ≡ 504

@@ -1,3 +1,4 @@
+pub mod counting;
 pub mod slots;
 
 use layouts::Head;

@@ -1,4 +1,7 @@
+ghost use Rattle.std.specs.Prelude.{◌≡◌, Some};
 ghost use Rattle.stores.specs.Meanings.{Steadily};
+ghost use Rattle.cards.specs.Memories.{Memory};
+ghost use Rattle.samples.specs.Memories.{Arrays};
 ghost use Rattle.cards.specs.Lawful.{CardLaw};
 ghost use Rattle.mounts.specs.Mounts.{MountOutcome, MountCalls};
 ghost use Rattle.samplers.specs.Calls.{Leaves};
@@ -16,11 +19,12 @@ impl<S: SteadyStore, K: RecordKind> Asleep<S, K> {
         ensures law { CardLaw S.Store.own K.CODE K.wrong }
         ensures sound { Steadily S.Store.steady (S.Store.meaning (S.Store.state self.old.store)) (S.Store.meaning (S.Store.state self.new.store)) }
         ensures calls { Leaves (λ r. MountCalls S.Store.does (S.Store.state self.old.store) r (S.Store.state self.new.store)) result self.new.sample }
+        ensures arrays { (t : Memory) → self.new.sample ≡ Some t → Arrays t }
     {
         // A refused mount leaves the sampler dark.
         self.sample = None;
         let sample = mount::<S, K>(&mut self.store)?;
-        let count = sample.head.count;
+        let count = sample.count();
         self.sample = Some(sample);
         Ok(count)
     }

@@ -1,7 +1,7 @@
 ghost use Rattle.std.specs.Prelude.{◌≡◌};
 ghost use Rattle.cards.specs.Cards.{filled};
 ghost use Rattle.records.specs.Reading.{shown_as};
-ghost use Rattle.samples.specs.Memories.{slot_read, blank_memory};
+ghost use Rattle.samples.specs.Memories.{Arrays, slot_read, blank_memory};
 
 use crate::samples::Sample;
 use cards::filled;
@@ -34,6 +34,14 @@ impl<K: RecordKind> Sample<K> {
             work: [0; BLOCK_BYTES],
             kind: PhantomData,
         }
+    }
+
+    // How many records are counted.
+    pub fn count(&self) -> u32
+        ensures value { result ≡ self.now.head.count }
+        ensures arrays { Arrays self.now }
+    {
+        self.head.count
     }
 
     // How many slots records have filled.

@@ -1,0 +1,15 @@
+pub mod Given
+pub mod Blanks
+pub mod Recovered
+pub mod Remounts
+pub mod Kept
+pub mod Settling
+pub mod Filling
+pub mod Inserting
+pub mod Mounting
+pub mod Slots
+pub mod Turns
+pub mod Formatting
+pub mod Standing
+pub mod Runs
+pub mod Soundness

@@ -1,0 +1,13 @@
+pub mod Telling
+pub mod OneMore
+pub mod Fitting
+pub mod Cards
+pub mod Steps
+pub mod Commits
+pub mod Puts
+pub mod Inserts
+pub mod Joined
+pub mod Rebased
+pub mod Rewrites
+pub mod Refreshes
+pub mod Safety

@@ -1,0 +1,4 @@
+pub mod Inserts
+pub mod Commits
+pub mod Refreshes
+pub mod Worked

@@ -1,0 +1,2 @@
+// What working a sampler does: the memory after each call, and the calls that it makes below.
+#![tactic(auto)]
