@@ -1,4 +1,5 @@
 use crate::handmade::{SAMPLE, card, put};
+use crate::same::same;
 use cardreads::read_card;
 use failures::Failure;
 use faults::{Fault, Layer, Reason};
@@ -33,19 +34,20 @@ const DAMAGED: [(usize, u8, u64); 8] = [
 #[test]
 fn damaged_event_is_refused_at_its_slot(rt: HostRuntime) -> Result<(), Fail> {
     let heap = rt.alloc();
-    for (place, byte, slot) in DAMAGED {
+    for (place, byte, slot) in &DAMAGED {
         let mut bytes = events(heap)?;
-        put(&mut bytes, place, &[byte]);
+        put(&mut bytes, *place, &[*byte]);
         let fault = Fault {
             reason: Reason::BadSlot,
             layer: Layer::Sampler,
-            place: slot,
+            place: *slot,
         };
         let (_bytes, read) = read_card::<Event>(heap, bytes);
-        match read {
-            Err(Failure::Because(found)) => assert_eq!(rt; found, fault, "byte {place} is {byte}"),
-            _ => panic!(rt; "byte {place} is {byte}"),
-        }
+        let found = match read {
+            Err(Failure::Because(found)) => Some(found),
+            _ => None,
+        };
+        same(&rt, found, Some(fault), *place);
     }
     Ok(())
 }

@@ -1,8 +1,7 @@
-// Cards that are read, whole and damaged, and samplers that are formatted, mounted and worked over stores that are given.
+// Cards that are read, whole and damaged, samplers that are formatted and mounted over stores that are given, and cards that nights
+// leave.
 #![tactic(auto)]
 
-#[cfg(test)]
-mod cuts;
 #[cfg(test)]
 mod damaged;
 #[cfg(test)]
@@ -10,7 +9,9 @@ mod events;
 #[cfg(test)]
 mod handmade;
 #[cfg(test)]
-mod nights;
+mod plays;
+#[cfg(test)]
+mod same;
 #[cfg(test)]
 mod sleepers;
 #[cfg(test)]

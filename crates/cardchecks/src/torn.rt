@@ -1,4 +1,5 @@
 use crate::handmade::logged_card;
+use crate::same::same;
 use benches::{Bench, Given};
 use faults::{Fault, Layer, Reason};
 use mirrors::Mirror;
@@ -25,11 +26,11 @@ fn torn_twice(heap: Global, torn: usize) -> Result<Vec<u8>, AllocError> {
     Ok(bytes)
 }
 
-fn bench(heap: Global, bytes: Vec<u8>, fuses: &[u32], choices: &[u8]) -> Result<Bench, AllocError> {
+fn bench(heap: Global, bytes: Vec<u8>) -> Result<Bench, AllocError> {
     let given = Given {
         bytes,
-        fuses: fuses.to_vec(heap)?,
-        choices: choices.to_vec(heap)?,
+        fuses: Vec::new(heap),
+        choices: Vec::new(heap),
     };
     Bench::new(heap, given).map_err(|_given| AllocError)
 }
@@ -39,52 +40,14 @@ fn bench(heap: Global, bytes: Vec<u8>, fuses: &[u32], choices: &[u8]) -> Result<
 fn torn_block_refuses_the_mount(rt: HostRuntime) -> Result<(), Fail> {
     let heap = rt.alloc();
     for block in 0..3u8 {
-        let mirror = Mirror::new(bench(heap, torn_twice(heap, usize::from(block))?, &[], &[])?);
+        let mirror = Mirror::new(bench(heap, torn_twice(heap, usize::from(block))?)?);
         let mut asleep: Asleep<Mirror<Bench>, Offset> = Asleep::new(mirror);
         let fault = Fault {
             reason: Reason::Torn,
             layer: Layer::Mirror,
             place: u64::from(block),
         };
-        assert_eq!(rt; asleep.mount(), Err(fault), "block {block}");
+        same(&rt, asleep.mount(), Err(fault), usize::from(block));
     }
-    Ok(())
-}
-
-// A format that is cut in any of its writes and flushes below leaves no head, or the whole card.
-#[test]
-fn cut_format_leaves_no_head_or_the_whole_card(rt: HostRuntime) -> Result<(), Fail> {
-    let heap = rt.alloc();
-    let supply_failed = Fault {
-        reason: Reason::Off,
-        layer: Layer::Device,
-        place: 0,
-    };
-    let no_head = Fault {
-        reason: Reason::BadHead,
-        layer: Layer::Sampler,
-        place: 0,
-    };
-    // Fifteen calls below: three blocks written and settled twice each, and three flushes of the sampler's own.
-    for fuse in 0..15 {
-        for choice in 0..3 {
-            let memory = torn_twice(heap, 3)?;
-            let mirror = Mirror::new(bench(heap, memory, &[fuse], &[choice, choice])?);
-            let mut asleep: Asleep<Mirror<Bench>, Offset> = Asleep::new(mirror);
-            assert_eq!(rt;
-                asleep.format(2, 1, 0),
-                Err(supply_failed),
-                "{fuse} {choice}"
-            );
-            let mounted = asleep.mount();
-            let fine = mounted == Err(no_head)
-                || mounted == Ok(0)
-                || (fuse < 4 && mounted == Ok(5));
-            assert_eq!(rt; fine, true, "{fuse} {choice}");
-        }
-    }
-    let mirror = Mirror::new(bench(heap, torn_twice(heap, 3)?, &[15], &[])?);
-    let mut asleep: Asleep<Mirror<Bench>, Offset> = Asleep::new(mirror);
-    assert_eq!(rt; asleep.format(2, 1, 0), Ok(()));
     Ok(())
 }

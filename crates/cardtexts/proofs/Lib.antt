@@ -1,3 +1,2 @@
 pub mod Hexadecimals
 pub mod SlotTexts
-pub mod SumLaws

@@ -1,10 +1,11 @@
 -- What is printed of a card that was read. Assumes nothing.
-use Rattle.std.specs.Prelude.{ℕ, zero, suc, ◌+◌, ◌/◌, ◌%◌, false, List, [], ◌∷◌, ◌++◌, map, length, ℤ, pos, ◌+ℤ◌, codes, decimal}
+use Rattle.std.specs.Prelude.{ℕ, zero, suc, ◌+◌, ◌/◌, ◌%◌, false, List, [], ◌∷◌, ◌++◌, map, length, codes, decimal}
 use Rattle.std.specs.Fmt.{digit_glyph}
 use Rattle.records.specs.Events as events
 use Rattle.records.specs.Offsets as offsets
 use Rattle.layouts.specs.Heads.{Fields, head_fields}
 use Rattle.sampletexts.specs.Lines.{offset_text, event_text, slot_text, mean_line}
+use Rattle.sampletexts.specs.Sums.{sum_of}
 use Rattle.cardtexts.specs.declared.readings.AnyReading.{AnyReading}
 use Rattle.cardtexts.specs.declared.readings.AnyReading.TheVariants.{Offsets, Events}
 
@@ -23,11 +24,6 @@ head_text h =
 abbrev pub slots_text : {R : Type 0} → (R → List ℕ) → ℕ → List R → List ℕ
 slots_text text slot [] = []
 slots_text text slot (r ∷ rs) = slot_text slot (text r) ++ (codes "\n" ++ slots_text text (slot + 1) rs)
-
--- the exact sum of the nanoseconds
-abbrev pub sum_of : List offsets.Fields → ℤ
-sum_of [] = pos 0
-sum_of (x ∷ xs) = x.2 +ℤ sum_of xs
 
 -- a card of offsets, with their mean
 abbrev pub offsets_text : Fields → List offsets.Fields → List ℕ

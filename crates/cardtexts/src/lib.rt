@@ -1,10 +1,10 @@
 // What is printed of a card that was read, and of one that was refused.
 #![tactic(auto)]
 
+mod averages;
 mod lines;
 mod readings;
 mod refusals;
-mod sums;
 
 pub use readings::{AnyReading, read_any_card};
 pub use refusals::Refusal;

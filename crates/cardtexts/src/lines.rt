@@ -5,11 +5,10 @@ ghost use Rattle.layouts.specs.Heads.{head_fields};
 ghost use Rattle.sampletexts.specs.Lines.{offset_text, event_text};
 ghost use Rattle.cardtexts.specs.Texts.{head_text, slots_text, offsets_text, events_text, card_text};
 
+use crate::averages::mean;
 use crate::readings::AnyReading;
-use crate::sums::sum;
 use cardreads::Reading;
 use layouts::Head;
-use means::Mean;
 use records::{Event, Offset};
 use sampletexts::{EventWords, MeanLine, OffsetNumbers, SlotLine};
 use std::fmt;
@@ -75,10 +74,7 @@ impl fmt::Display for OffsetCard<'_> {
         let head = HeadLines(self.0.head);
         let offsets = self.0.records.as_slice();
         let slots = OffsetSlots(offsets);
-        let mean = MeanLine(Mean {
-            sum: sum(offsets),
-            count: offsets.len() as u64,
-        });
+        let mean = MeanLine(mean(offsets));
         write!(f, "kind offset\n{head}{slots}{mean}\n")
     }
 }

@@ -1,3 +1,4 @@
+use crate::looking::same;
 use sampling::draw;
 
 // A seed, the number of a draw, and the output of SplitMix64 as OpenJDK 17's SplittableRandom gives it.
@@ -19,7 +20,7 @@ const PUBLISHED: [(u64, u64, u64); 13] = [
 
 #[test]
 fn draws_are_the_published_ones(rt: HostRuntime) {
-    for (seed, k, output) in PUBLISHED {
-        assert_eq!(rt; draw(seed, k), output);
+    for (case, (seed, k, output)) in PUBLISHED.iter().enumerate() {
+        same(&rt, draw(*seed, *k), *output, case);
     }
 }

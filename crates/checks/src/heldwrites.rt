@@ -1,4 +1,4 @@
-use crate::looking::{read_refused, reads};
+use crate::looking::{read_refused, reads, same, starts, writes};
 use benches::{Bench, Given};
 use faults::{Fault, Layer, Reason};
 use std::alloc::{AllocError, Global};
@@ -32,13 +32,13 @@ const KEPT: [(u8, [u8; 2], [u8; 2]); 9] = [
 #[test]
 fn the_17th_write_settles_the_16_before_it(rt: HostRuntime) -> Result<(), Fail> {
     let heap = rt.alloc();
-    for (writes, choices, values) in KEPT {
-        let mut bench = bench(heap, &[], &choices)?;
-        assert_eq!(rt; bench.restart(), Ok(()));
-        for k in 1..writes + 1 {
-            assert_eq!(rt; bench.write(u32::from(k % 2), &[k; BLOCK_BYTES]), Ok(()));
+    for (many, choices, values) in &KEPT {
+        let mut bench = bench(heap, &[], choices)?;
+        starts(&rt, &mut bench);
+        for k in 1..=*many { // k up to many
+            writes(&rt, &mut bench, u32::from(k % 2), k);
         }
-        assert_eq!(rt; bench.restart(), Ok(()));
+        starts(&rt, &mut bench);
         reads(&rt, &mut bench, 0, values[0]);
         reads(&rt, &mut bench, 1, values[1]);
     }
@@ -55,25 +55,25 @@ const OFF: Fault = Fault {
 fn fuses_and_choices_past_their_ends(rt: HostRuntime) -> Result<(), Fail> {
     let heap = rt.alloc();
     let mut bench = bench(heap, &[1, 1], &[2])?;
-    assert_eq!(rt; bench.restart(), Ok(()));
-    assert_eq!(rt; bench.write(0, &[5; BLOCK_BYTES]), Ok(()));
-    assert_eq!(rt; bench.write(0, &[6; BLOCK_BYTES]), Err(OFF)); // held all the same
-    assert_eq!(rt; bench.restart(), Ok(())); // the only choice keeps the second of the two
+    starts(&rt, &mut bench);
+    writes(&rt, &mut bench, 0, 5);
+    same(&rt, bench.write(0, &[6; BLOCK_BYTES]), Err(OFF), 6); // held all the same
+    starts(&rt, &mut bench); // the only choice keeps the second of the two
     reads(&rt, &mut bench, 0, 6);
-    assert_eq!(rt; bench.write(0, &[3; BLOCK_BYTES]), Ok(()));
-    assert_eq!(rt; bench.flush(), Err(OFF)); // settles nothing
-    assert_eq!(rt; bench.restart(), Ok(())); // past the last fuse, and past the last choice
+    writes(&rt, &mut bench, 0, 3);
+    same(&rt, bench.flush(), Err(OFF), 3); // settles nothing
+    starts(&rt, &mut bench); // past the last fuse, and past the last choice
     reads(&rt, &mut bench, 0, 6);
     for k in 0..100 {
-        assert_eq!(rt; bench.write(0, &[k; BLOCK_BYTES]), Ok(()));
-        assert_eq!(rt; bench.flush(), Ok(()));
+        writes(&rt, &mut bench, 0, k);
+        same(&rt, bench.flush(), Ok(()), 0);
     }
-    assert_eq!(rt; bench.write(0, &[7; BLOCK_BYTES]), Ok(()));
+    writes(&rt, &mut bench, 0, 7);
     reads(&rt, &mut bench, 0, 7);
-    assert_eq!(rt; bench.restart(), Ok(()));
+    starts(&rt, &mut bench);
     reads(&rt, &mut bench, 0, 99);
-    assert_eq!(rt; bench.write(0, &[8; BLOCK_BYTES]), Ok(()));
-    assert_eq!(rt; bench.flush(), Ok(()));
+    writes(&rt, &mut bench, 0, 8);
+    same(&rt, bench.flush(), Ok(()), 0);
     reads(&rt, &mut bench, 0, 8);
     Ok(())
 }
@@ -95,9 +95,9 @@ fn choices_keep_lose_or_tear_a_held_write(rt: HostRuntime) -> Result<(), Fail> {
         (254, None),
     ] {
         let mut bench = bench(heap, &[], &[choice])?;
-        assert_eq!(rt; bench.restart(), Ok(()));
-        assert_eq!(rt; bench.write(1, &[4; BLOCK_BYTES]), Ok(()));
-        assert_eq!(rt; bench.restart(), Ok(()));
+        starts(&rt, &mut bench);
+        writes(&rt, &mut bench, 1, 4);
+        starts(&rt, &mut bench);
         match value {
             Some(value) => reads(&rt, &mut bench, 1, value),
             None => read_refused(&rt, &mut bench, 1, torn),

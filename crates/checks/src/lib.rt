@@ -1,5 +1,5 @@
-// Examples that are run: published draws, scripts good and bad, rounding, how refusals read, and stores over memory that
-// is given.
+// Examples that are run: published draws, rounding, how refusals and nights read, scripts of store calls good and bad, and stores
+// over memory that is given.
 #![tactic(auto)]
 
 #[cfg(test)]
@@ -11,9 +11,11 @@ mod looking;
 #[cfg(test)]
 mod memories;
 #[cfg(test)]
+mod nightlines;
+#[cfg(test)]
 mod refusals;
 #[cfg(test)]
-mod scripts;
+mod rounding;
 #[cfg(test)]
 mod storeplays;
 #[cfg(test)]

@@ -1,4 +1,4 @@
-use crate::looking::reads;
+use crate::looking::{reads, same, starts, writes};
 use images::Image;
 use mirrors::Mirror;
 use std::alloc::{AllocError, Global};
@@ -19,17 +19,17 @@ fn memory(heap: Global, blocks: &[u8]) -> Result<Vec<u8>, AllocError> {
 fn image_gives_its_memory_back_as_it_was_written(rt: HostRuntime) -> Result<(), Fail> {
     let heap = rt.alloc();
     let mut image = Image::new(memory(heap, &[1, 2, 3])?);
-    assert_eq!(rt; image.size(), 3);
-    assert_eq!(rt; image.write(0, &[8; BLOCK_BYTES]).is_err(), true); // it is off
-    assert_eq!(rt; image.restart(), Ok(()));
-    assert_eq!(rt; image.write(1, &[9; BLOCK_BYTES]), Ok(()));
-    assert_eq!(rt; image.write(2, &[8; 503]).is_err(), true);
+    same(&rt, image.size(), 3, 0);
+    same(&rt, image.write(0, &[8; BLOCK_BYTES]).is_err(), true, 1); // it is off
+    starts(&rt, &mut image);
+    writes(&rt, &mut image, 1, 9);
+    same(&rt, image.write(2, &[8; 503]).is_err(), true, 2);
     reads(&rt, &mut image, 0, 1);
     reads(&rt, &mut image, 1, 9);
     reads(&rt, &mut image, 2, 3);
     let back = image.into_bytes();
     let written = memory(heap, &[1, 9, 3])?;
-    assert_eq!(rt; back.as_slice(), written.as_slice());
+    same(&rt, back.as_slice(), written.as_slice(), 3);
     Ok(())
 }
 
@@ -37,12 +37,12 @@ fn image_gives_its_memory_back_as_it_was_written(rt: HostRuntime) -> Result<(), 
 fn mirror_over_an_image_writes_both_copies(rt: HostRuntime) -> Result<(), Fail> {
     let heap = rt.alloc();
     let mut mirror = Mirror::new(Image::new(memory(heap, &[1, 2, 1, 2, 5])?));
-    assert_eq!(rt; mirror.restart(), Ok(()));
-    assert_eq!(rt; mirror.write(1, &[9; BLOCK_BYTES]), Ok(()));
+    starts(&rt, &mut mirror);
+    writes(&rt, &mut mirror, 1, 9);
     reads(&rt, &mut mirror, 0, 1);
     reads(&rt, &mut mirror, 1, 9);
     let back = mirror.into_below().into_bytes();
     let written = memory(heap, &[1, 9, 1, 9, 5])?;
-    assert_eq!(rt; back.as_slice(), written.as_slice());
+    same(&rt, back.as_slice(), written.as_slice(), 3);
     Ok(())
 }

@@ -1,3 +1,4 @@
+use crate::looking::same;
 use std::test::Fail;
 use storetranscripts::transcript;
 
@@ -21,14 +22,12 @@ const PLAYS: [(&str, &str); 4] = [
 
 #[test]
 fn store_scripts_print_or_name_their_first_bad_line(rt: HostRuntime) -> Result<(), Fail> {
-    for (script, said) in PLAYS {
-        match transcript(rt.alloc(), script) {
-            Ok(out) => assert_eq!(rt; out.as_str(), said),
-            Err(unread) => {
-                let text = format!(in rt.alloc(); "{unread}")?;
-                assert_eq!(rt; text.as_str(), said);
-            }
-        }
+    for (case, (script, said)) in PLAYS.iter().enumerate() {
+        let text = match transcript(rt.alloc(), script) {
+            Ok(out) => out,
+            Err(unread) => format!(in rt.alloc(); "{unread}")?,
+        };
+        same(&rt, text.as_str(), said, case);
     }
     Ok(())
 }

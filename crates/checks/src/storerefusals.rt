@@ -1,4 +1,4 @@
-use crate::looking::{read_refused, reads};
+use crate::looking::{read_refused, reads, same, starts, writes};
 use benches::{Bench, Given};
 use faults::{Fault, Layer, Reason};
 use images::Image;
@@ -28,29 +28,25 @@ fn block_refused<S: Store>(
     fault: Fault,
 ) {
     let mut buf = [170; 505];
-    assert!(rt; length <= 505);
-    assert_eq!(rt;
-        store.read(block, &mut buf[0..length]),
-        Err(fault),
-        "read {block}, {length}"
-    );
-    assert_eq!(rt; buf, [170; 505], "read {block}, {length}");
-    assert_eq!(rt;
-        store.write(block, &buf[0..length]),
-        Err(fault),
-        "write {block}, {length}"
-    );
+    let as_it_was = buf;
+    let read = match buf.get_mut(0..length) {
+        Some(part) => store.read(block, part),
+        None => Ok(()),
+    };
+    same(rt, read, Err(fault), length);
+    same(rt, buf.as_slice(), as_it_was.as_slice(), length);
+    let written = match buf.get(0..length) {
+        Some(part) => store.write(block, part),
+        None => Ok(()),
+    };
+    same(rt, written, Err(fault), length);
 }
 
 // What is refused whether the store is on or off.
 fn wrong_refused<S: Store>(rt: &impl Abort, store: &mut S, layer: Layer) {
-    for (block, length, reason, place) in WRONG {
-        let fault = Fault {
-            reason,
-            layer,
-            place,
-        };
-        block_refused(rt, store, block, length, fault);
+    for (block, length, reason, place) in &WRONG {
+        let fault = layer.fault(*reason, *place);
+        block_refused(rt, store, *block, *length, fault);
     }
 }
 
@@ -64,20 +60,20 @@ fn off_refused<S: Store>(rt: &impl Abort, store: &mut S, layer: Layer) {
     for block in [0, 1] {
         block_refused(rt, store, block, BLOCK_BYTES, off);
     }
-    assert_eq!(rt; store.flush(), Err(off));
+    same(rt, store.flush(), Err(off), 0);
 }
 
 // A store of two blocks that was just made. It is off: what is wrong with the arguments is said first all the same. Once
 // it is on it says the same of them, and serves the rest.
 fn refuses_in_order<S: Store>(rt: &impl Abort, store: &mut S, layer: Layer) {
-    assert_eq!(rt; store.size(), 2);
+    same(rt, store.size(), 2, 0);
     wrong_refused(rt, store, layer);
     off_refused(rt, store, layer);
-    assert_eq!(rt; store.restart(), Ok(()));
+    starts(rt, store);
     wrong_refused(rt, store, layer);
-    assert_eq!(rt; store.flush(), Ok(()));
+    same(rt, store.flush(), Ok(()), 0);
     reads(rt, store, 1, 0);
-    assert_eq!(rt; store.write(1, &[6; BLOCK_BYTES]), Ok(()));
+    writes(rt, store, 1, 6);
     reads(rt, store, 1, 6);
     reads(rt, store, 0, 0);
 }
@@ -116,11 +112,16 @@ const SUPPLY_FAILED: Fault = Fault {
 fn failing_supply_is_refused_by_the_device(rt: HostRuntime) -> Result<(), Fail> {
     let heap = rt.alloc();
     let mut bench_alone = bench(heap, vec![in heap; 0; 1010]?, &[0, 0])?;
-    assert_eq!(rt; bench_alone.restart(), Ok(()));
-    assert_eq!(rt; bench_alone.write(0, &[1; BLOCK_BYTES]), Err(SUPPLY_FAILED));
+    starts(&rt, &mut bench_alone);
+    same(
+        &rt,
+        bench_alone.write(0, &[1; BLOCK_BYTES]),
+        Err(SUPPLY_FAILED),
+        0,
+    );
     off_refused(&rt, &mut bench_alone, Layer::Device);
-    assert_eq!(rt; bench_alone.restart(), Ok(()));
-    assert_eq!(rt; bench_alone.flush(), Err(SUPPLY_FAILED));
+    starts(&rt, &mut bench_alone);
+    same(&rt, bench_alone.flush(), Err(SUPPLY_FAILED), 0);
     off_refused(&rt, &mut bench_alone, Layer::Device);
     Ok(())
 }
@@ -132,13 +133,18 @@ fn failing_supply_comes_up_through_a_mirror(rt: HostRuntime) -> Result<(), Fail>
     let mut bytes = vec![in heap; 0; 2020]?;
     bytes[2019] = 1; // the second copy of block 1 is torn
     let mut mirror = Mirror::new(bench(heap, bytes, &[0, 2, 0])?);
-    assert_eq!(rt; mirror.restart(), Err(SUPPLY_FAILED));
+    same(&rt, mirror.restart(), Err(SUPPLY_FAILED), 0);
     off_refused(&rt, &mut mirror, Layer::Mirror);
-    assert_eq!(rt; mirror.restart(), Ok(()));
-    assert_eq!(rt; mirror.flush(), Err(SUPPLY_FAILED));
+    starts(&rt, &mut mirror);
+    same(&rt, mirror.flush(), Err(SUPPLY_FAILED), 0);
     off_refused(&rt, &mut mirror, Layer::Mirror);
-    assert_eq!(rt; mirror.restart(), Ok(()));
-    assert_eq!(rt; mirror.write(0, &[1; BLOCK_BYTES]), Err(SUPPLY_FAILED));
+    starts(&rt, &mut mirror);
+    same(
+        &rt,
+        mirror.write(0, &[1; BLOCK_BYTES]),
+        Err(SUPPLY_FAILED),
+        0,
+    );
     off_refused(&rt, &mut mirror, Layer::Mirror);
     Ok(())
 }
@@ -154,10 +160,10 @@ fn torn_block_is_refused_by_the_bench(rt: HostRuntime) -> Result<(), Fail> {
         layer: Layer::Device,
         place: 0,
     };
-    assert_eq!(rt; bench.restart(), Ok(()));
+    starts(&rt, &mut bench);
     read_refused(&rt, &mut bench, 0, torn);
     reads(&rt, &mut bench, 1, 7);
-    assert_eq!(rt; bench.write(0, &[5; BLOCK_BYTES]), Ok(()));
+    writes(&rt, &mut bench, 0, 5);
     reads(&rt, &mut bench, 0, 5);
     Ok(())
 }

@@ -1,3 +1,4 @@
+use crate::looking::same;
 use std::process::Abort;
 use std::test::Fail;
 use storeparsing::parse;
@@ -74,14 +75,12 @@ const BAD: [(&str, &str); 20] = [
 
 #[test]
 fn store_scripts_name_their_first_bad_line(rt: HostRuntime) -> Result<(), Fail> {
-    for (script, said) in BAD {
-        match parse(rt.alloc(), script) {
-            Ok(_) => assert_eq!(rt; "read", said),
-            Err(unread) => {
-                let text = format!(in rt.alloc(); "{unread}")?;
-                assert_eq!(rt; text.as_str(), said);
-            }
-        }
+    for (case, (script, said)) in BAD.iter().enumerate() {
+        let text = match parse(rt.alloc(), script) {
+            Ok(_scenarios) => String::new(rt.alloc()),
+            Err(unread) => format!(in rt.alloc(); "{unread}")?,
+        };
+        same(&rt, text.as_str(), said, case);
     }
     Ok(())
 }
@@ -101,31 +100,26 @@ fn read_as_written(rt: &impl Abort, first: &Scenario, second: &Scenario) {
     let read = Call::Read {
         block: 4_294_967_295,
     };
-    assert_eq!(rt; first.stack, stack);
-    assert_eq!(rt; first.fuses.as_slice(), [1, 2, 3].as_slice());
-    assert_eq!(rt; first.choices.as_slice(), [255].as_slice());
-    assert_eq!(rt; first.calls.as_slice(), [write, read].as_slice());
+    same(rt, first.stack, stack, 1);
+    same(rt, first.fuses.as_slice(), [1, 2, 3].as_slice(), 1);
+    same(rt, first.choices.as_slice(), [255].as_slice(), 1);
+    same(rt, first.calls.as_slice(), [write, read].as_slice(), 1);
     let stack = Stack {
         device: Device::Image,
         mirrored: false,
         blocks: 0,
     };
-    assert_eq!(rt; second.stack, stack);
-    assert_eq!(rt; second.fuses.len() + second.choices.len(), 0);
-    assert_eq!(rt;
-        second.calls.as_slice(),
-        [Call::Restart, Call::Flush].as_slice()
-    );
+    same(rt, second.stack, stack, 2);
+    same(rt, second.fuses.is_empty(), true, 2);
+    same(rt, second.choices.is_empty(), true, 2);
+    let calls = [Call::Restart, Call::Flush];
+    same(rt, second.calls.as_slice(), calls.as_slice(), 2);
 }
 
 #[test]
 fn store_scripts_are_read(rt: HostRuntime) {
-    let scenarios = parse(rt.alloc(), GOOD).ok();
-    assert_eq!(rt; scenarios.is_some(), true);
-    if let Some(scenarios) = scenarios {
-        assert_eq!(rt; scenarios.len(), 2);
-        if let [first, second] = scenarios.as_slice() {
-            read_as_written(&rt, first, second);
-        }
+    match parse(rt.alloc(), GOOD).ok().as_deref() {
+        Some([first, second]) => read_as_written(&rt, first, second),
+        _ => panic!(rt; "two scenarios are read"),
     }
 }

@@ -1,8 +1,9 @@
-use crate::looking::{read_refused, reads};
+use crate::looking::{read_refused, reads, same, starts, writes};
 use benches::{Bench, Given};
 use faults::{Fault, Layer, Reason};
 use mirrors::Mirror;
 use std::alloc::{AllocError, Global};
+use std::process::Abort;
 use std::test::Fail;
 use stores::{BLOCK_BYTES, Store};
 
@@ -32,6 +33,20 @@ fn mirror(
     Ok(Mirror::new(bench))
 }
 
+// The mirror leaves this memory.
+fn leaves(
+    rt: &impl Abort,
+    heap: Global,
+    mirror: Mirror<Bench>,
+    blocks: &[(u8, u8)],
+    case: usize,
+) -> Result<(), AllocError> {
+    let left = mirror.into_below().into_bytes();
+    let expected = memory(heap, blocks)?;
+    same(rt, left.as_slice(), expected.as_slice(), case);
+    Ok(())
+}
+
 // The copies of block 1 are at the blocks 1 and 3 of the bench. Its fifth block is torn, and no copy of any.
 const FIRST_TORN: [(u8, u8); 5] = [(1, 0), (7, 3), (1, 0), (9, 0), (5, 2)];
 
@@ -41,13 +56,11 @@ const MENDED: [(u8, u8); 5] = [(1, 0), (9, 0), (1, 0), (9, 0), (5, 2)];
 fn torn_first_copy_is_read_from_the_second(rt: HostRuntime) -> Result<(), Fail> {
     let heap = rt.alloc();
     let mut mirror = mirror(heap, &FIRST_TORN, &[], &[])?;
-    assert_eq!(rt; mirror.size(), 2);
-    assert_eq!(rt; mirror.restart(), Ok(()));
+    same(&rt, mirror.size(), 2, 0);
+    starts(&rt, &mut mirror);
     reads(&rt, &mut mirror, 0, 1);
     reads(&rt, &mut mirror, 1, 9);
-    let left = mirror.into_below().into_bytes();
-    let mended = memory(heap, &MENDED)?;
-    assert_eq!(rt; left.as_slice(), mended.as_slice());
+    leaves(&rt, heap, mirror, &MENDED, 0)?;
     Ok(())
 }
 
@@ -60,13 +73,11 @@ const BOTH_ALIKE: [(u8, u8); 2] = [(7, 0), (7, 0)];
 #[test]
 fn whole_first_copy_goes_over_a_torn_or_different_second(rt: HostRuntime) -> Result<(), Fail> {
     let heap = rt.alloc();
-    let alike = memory(heap, &BOTH_ALIKE)?;
     for blocks in [SECOND_TORN, DIFFERENT] {
         let mut mirror = mirror(heap, &blocks, &[], &[])?;
-        assert_eq!(rt; mirror.restart(), Ok(()));
+        starts(&rt, &mut mirror);
         reads(&rt, &mut mirror, 0, 7);
-        let left = mirror.into_below().into_bytes();
-        assert_eq!(rt; left.as_slice(), alike.as_slice());
+        leaves(&rt, heap, mirror, &BOTH_ALIKE, 0)?;
     }
     Ok(())
 }
@@ -90,12 +101,10 @@ fn two_torn_copies_stay_torn_and_are_refused(rt: HostRuntime) -> Result<(), Fail
         place: 1,
     };
     let mut mirror = mirror(heap, &BOTH_TORN, &[], &[])?;
-    assert_eq!(rt; mirror.restart(), Ok(()));
+    starts(&rt, &mut mirror);
     read_refused(&rt, &mut mirror, 1, torn);
     reads(&rt, &mut mirror, 0, 1);
-    let left = mirror.into_below().into_bytes();
-    let given = memory(heap, &BOTH_TORN)?;
-    assert_eq!(rt; left.as_slice(), given.as_slice());
+    leaves(&rt, heap, mirror, &BOTH_TORN, 0)?;
     Ok(())
 }
 
@@ -103,12 +112,10 @@ fn two_torn_copies_stay_torn_and_are_refused(rt: HostRuntime) -> Result<(), Fail
 fn write_makes_two_torn_copies_whole(rt: HostRuntime) -> Result<(), Fail> {
     let heap = rt.alloc();
     let mut mirror = mirror(heap, &BOTH_TORN, &[], &[])?;
-    assert_eq!(rt; mirror.restart(), Ok(()));
-    assert_eq!(rt; mirror.write(1, &[4; BLOCK_BYTES]), Ok(()));
+    starts(&rt, &mut mirror);
+    writes(&rt, &mut mirror, 1, 4);
     reads(&rt, &mut mirror, 1, 4);
-    let left = mirror.into_below().into_bytes();
-    let written = memory(heap, &WRITTEN)?;
-    assert_eq!(rt; left.as_slice(), written.as_slice());
+    leaves(&rt, heap, mirror, &WRITTEN, 0)?;
     Ok(())
 }
 
@@ -139,23 +146,15 @@ const ALIKE: [(u8, u8); 8] = [
 #[test]
 fn restart_cut_in_any_place_is_made_good_by_the_next(rt: HostRuntime) -> Result<(), Fail> {
     let heap = rt.alloc();
-    let alike = memory(heap, &ALIKE)?;
-    for fuse in 0..6 {
-        for choice in 0..3 {
-            let mut mirror = mirror(heap, &UNLIKE, &[fuse], &[choice])?;
-            assert_eq!(rt; mirror.restart(), Err(SUPPLY_FAILED), "fuse {fuse}");
-            assert_eq!(rt; mirror.restart(), Ok(()), "fuse {fuse}, choice {choice}");
-            let left = mirror.into_below().into_bytes();
-            assert_eq!(rt;
-                left.as_slice(),
-                alike.as_slice(),
-                "fuse {fuse}, choice {choice}"
-            );
-        }
+    for case in 0..18u32 { // case up to 17
+        let (fuse, choice) = (case / 3, (case % 3) as u8);
+        let mut mirror = mirror(heap, &UNLIKE, &[fuse], &[choice])?;
+        same(&rt, mirror.restart(), Err(SUPPLY_FAILED), case as usize);
+        same(&rt, mirror.restart(), Ok(()), case as usize);
+        leaves(&rt, heap, mirror, &ALIKE, case as usize)?;
     }
     let mut mirror = mirror(heap, &UNLIKE, &[6], &[])?;
-    assert_eq!(rt; mirror.restart(), Ok(()));
-    let left = mirror.into_below().into_bytes();
-    assert_eq!(rt; left.as_slice(), alike.as_slice());
+    starts(&rt, &mut mirror);
+    leaves(&rt, heap, mirror, &ALIKE, 18)?;
     Ok(())
 }

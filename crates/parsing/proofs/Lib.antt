@@ -1,2 +1,3 @@
+pub mod Growing
 pub mod Numbers
-pub mod Sequences
+pub mod Sleeping

@@ -10,7 +10,7 @@ use Rattle.std.proofs.lemmas.Bool.{eqb-true, eqb-false, cases_Bool}
 use Rattle.std.specs.Str.Pattern.{LacksTextAt}
 use Rattle.std.proofs.lemmas.Grind.{common_steps}
 use Rattle.words.specs.Numerals.{read_number, ReadsPlain}
-use Rattle.words.proofs.Numbers.{reads, plainly, plus_is_none}
+use Rattle.words.proofs.PlainNumbers.{reads, plainly, plus_is_none}
 use Rattle.parsing.specs.Numerals.{read_seed, read_offset}
 
 -- a signed number of 32 bits

@@ -1,3 +1,6 @@
 pub mod Numerals
-pub mod Lines
+pub mod Records
+pub mod Words
+pub mod Asks
+pub mod Cards
 pub mod Scripts

@@ -1,9 +1,13 @@
 // Reads the text of a script into scenarios, or says which line is bad and what was expected there.
 #![tactic(auto)]
 
-mod forms;
-mod lines;
+mod asks;
+mod cards;
+mod commands;
+mod given;
+mod nights;
 mod numerals;
 mod parser;
+mod starts;
 
 pub use parser::parse;

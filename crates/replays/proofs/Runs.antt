@@ -1,6 +1,5 @@
 -- What a run of a script's calls is told. Assumes nothing.
-use Rattle.std.proofs.Common.{◌≡◌, ℕ, List, [], ◌∷◌, ◌++◌, Ok, Err, Result, MatchResult, IfOk, vec_items, refl, sym, ap}
-use Rattle.std.specs.Global.{Vec}
+use Rattle.std.proofs.Common.{◌≡◌, ℕ, List, [], ◌∷◌, ◌++◌, Ok, Err, Result, refl, sym, ap}
 use Rattle.std.specs.Result.{result_and}
 use Rattle.faults.specs.declared.faults.Fault.{Fault}
 use Rattle.stores.specs.Outcomes as outcomes
@@ -10,7 +9,6 @@ use Rattle.storescript.specs.declared.calls.Call.{Call}
 use Rattle.replays.specs.declared.answers.Answer.{Answer}
 use Rattle.replays.specs.declared.answers.Answer.TheVariants.{Done}
 use Rattle.replays.specs.Answers.{accepted, told, Answered, Replayed}
-use Rattle.replays.specs.Played.{Plays}
 
 -- a call that answers no more than that it was accepted
 pub done_told : (call : Call) (r : outcomes.Answer) (buffer : List ℕ) → accepted call buffer ≡ Done → result_and r (Ok Done) ≡ told call r buffer
@@ -24,8 +22,3 @@ module _ {S : Type 0} (does : S → calls.Call → Response S → Type 0) where
   one_more s u t [] call answers r h a = (r, t, rw h.1 at a, [], ap (λ (xs : List (Result Answer Fault)). xs ++ r ∷ []) h.0, (refl, refl))
   one_more s u t (c ∷ cs) call answers r (q, v, step, rest, is, more) a =
       (q, v, step, rest ++ r ∷ [], ap (λ (xs : List (Result Answer Fault)). xs ++ r ∷ []) is, one_more v u t cs call rest r more a)
-
-  -- what was replayed from a state that is this one
-  pub played_from : {E : Type 0} (bad : E → Type 0) (s u t : S) (cs : List Call) (r : Result (Vec (Result Answer Fault)) E) → s ≡ u → MatchResult r (λ (answers : Vec (Result Answer Fault)). Replayed does s cs (vec_items answers) t) bad → IfOk r (λ (answers : Vec (Result Answer Fault)). Plays does u cs (vec_items answers))
-  played_from bad s u t cs (Ok answers) e h = (t, rw e at h)
-  played_from bad s u t cs (Err f) e h = tt

@@ -1,5 +1,5 @@
 -- What a scenario is answered: its stack is made of memory that is all zero, and its calls are replayed. Assumes nothing.
-use Rattle.std.specs.Prelude.{◌≡◌, ℕ, ◌*◌, Bool, true, false, List, [], replicate, Result}
+use Rattle.std.specs.Prelude.{◌≡◌, ℕ, Bool, true, false, List, Result}
 use Rattle.faults.specs.declared.faults.Fault.{Fault}
 use Rattle.stores.specs.Calls as calls
 use Rattle.stores.specs.Calls.{Response}
@@ -7,23 +7,14 @@ use Rattle.images.specs.Images as images
 use Rattle.images.specs.Images.{image_response}
 use Rattle.benches.specs.Benches as benches
 use Rattle.benches.specs.Benches.{bench_response}
-use Rattle.benches.specs.Views.{Contents}
-use Rattle.benches.specs.declared.power.Power.TheVariants.{Off}
 use Rattle.mirrors.specs.Below.{mirror_does}
+use Rattle.zeros.specs.Zeros.{zero_image, zero_bench, off_over}
 use Rattle.storescript.specs.declared.calls.Call.{Call}
 use Rattle.storescript.specs.declared.calls.Device as device
 use Rattle.storescript.specs.declared.calls.Device.TheVariants.{Image, Bench}
 use Rattle.storescript.specs.declared.calls.Stack.{Stack}
 use Rattle.replays.specs.declared.answers.Answer.{Answer}
 use Rattle.replays.specs.Answers.{Replayed}
-
--- an image of zeros with this many blocks, off
-abbrev pub zero_image : ℕ → images.View
-zero_image blocks = record { bytes = replicate (504 * blocks) 0; on = false }
-
--- a bench of zeros with this many blocks, off, with these fuses and these choices
-abbrev pub zero_bench : ℕ → List ℕ → List ℕ → Contents
-zero_bench blocks fuses choices = record { mem = replicate (505 * blocks) 0; held = []; fuses = fuses; power = Off; left = choices }
 
 -- calls replayed from this state on, wherever they end
 abbrev pub Plays : {S : Type 0} → (S → calls.Call → Response S → Type 0) → S → List Call → List (Result Answer Fault) → Type 0
@@ -33,10 +24,10 @@ Plays {S} does s calls answers = (t : S) × Replayed does s calls answers t
 abbrev pub PlayedOn : device.Device → Bool → ℕ → List ℕ → List ℕ → List Call → List (Result Answer Fault) → Type 0
 PlayedOn Image false blocks fuses choices calls answers = Plays (λ v c r. r ≡ image_response v c) (zero_image blocks) calls answers
 PlayedOn Image true blocks fuses choices calls answers =
-    Plays (mirror_does images.meaning_of (λ v c r. r ≡ image_response v c)) (record { below = zero_image blocks; on = false }) calls answers
+    Plays (mirror_does images.meaning_of (λ v c r. r ≡ image_response v c)) (off_over (zero_image blocks)) calls answers
 PlayedOn Bench false blocks fuses choices calls answers = Plays (λ v c r. r ≡ bench_response v c) (zero_bench blocks fuses choices) calls answers
 PlayedOn Bench true blocks fuses choices calls answers =
-    Plays (mirror_does benches.meaning_of (λ v c r. r ≡ bench_response v c)) (record { below = zero_bench blocks fuses choices; on = false }) calls answers
+    Plays (mirror_does benches.meaning_of (λ v c r. r ≡ bench_response v c)) (off_over (zero_bench blocks fuses choices)) calls answers
 
 -- a scenario's calls, on its stack
 abbrev pub Played : Stack → List ℕ → List ℕ → List Call → List (Result Answer Fault) → Type 0

@@ -1,6 +1,7 @@
 ghost use Rattle.std.specs.Prelude.{◌≡◌, MatchResult};
-ghost use Rattle.runs.specs.Runs.{setup};
+ghost use Rattle.runs.specs.Runs.{setup, AllWent};
 ghost use Rattle.laws.specs.Laws.{Law, FormatLaw};
+ghost use Rattle.laws.specs.declared.stages.Stage.TheVariants.{Sleeping};
 
 use crate::steps::step;
 use laws::Stage;
@@ -25,6 +26,7 @@ pub fn work<S: SteadyStore, K: RecordKind>(
     calls: &[Call<K>],
 ) -> Result<Run<S, K>, Asleep<S, K>>
     ensures law { MatchResult result (λ r. Law (setup S.Store.state S.Store.meaning S.Store.does S.Store.own S.Store.source S.Store.steady K.CODE K.bytes K.wrong) asleep calls.now r.answers.items r.stage) (λ back. back ≡ asleep) }
+    ensures went { MatchResult result (λ r. AllWent (setup S.Store.state S.Store.meaning S.Store.does S.Store.own S.Store.source S.Store.steady K.CODE K.bytes K.wrong) (Sleeping asleep) calls.now r.answers.items r.stage) (λ back. back ≡ asleep) }
     ensures format { FormatLaw {K = K} (setup S.Store.state S.Store.meaning S.Store.does S.Store.own S.Store.source S.Store.steady K.CODE K.bytes K.wrong) }
 {
     let Ok(mut answers) = Vec::with_capacity(heap, calls.len()) else {

@@ -2,5 +2,7 @@
 #![tactic(auto)]
 
 mod lines;
+mod sums;
 
 pub use lines::{EventWords, MeanLine, OffsetNumbers, SlotLine};
+pub use sums::sum;

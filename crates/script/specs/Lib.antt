@@ -1,1 +1,5 @@
 pub mod Texts
+pub mod Plans
+pub mod Shown
+pub mod Calls
+pub mod Told

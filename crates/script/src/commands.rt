@@ -11,9 +11,9 @@ pub enum Command {
     Report,
 }
 
-// One `reservoir` line of a script, and the commands up to the next.
+// One `reservoir` line of a script, and the commands up to the next scenario.
 #[derive(Drop)]
-pub struct Scenario {
+pub struct ReservoirScenario {
     pub size: u16,
     pub seed: u64,
     pub commands: Vec<Command>,

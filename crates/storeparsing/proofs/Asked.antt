@@ -4,7 +4,7 @@ use Rattle.languages.specs.Expecting.{or_else}
 use Rattle.words.specs.Numerals.{read_number}
 use Rattle.words.specs.Words.{texts}
 use Rattle.words.proofs.Counts.{one, two}
-use Rattle.words.proofs.Numbers.{PlainUnsigned, plain_number}
+use Rattle.words.proofs.PlainNumbers.{PlainUnsigned, plain_number}
 use Rattle.storescript.specs.declared.calls.Call.TheVariants.{Read, Write}
 use Rattle.storescript.specs.declared.expectations.Expected.TheVariants.{Block, Value}
 use Rattle.storeparsing.specs.Calls.{read_read, read_write}

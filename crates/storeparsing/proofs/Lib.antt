@@ -1,4 +1,2 @@
 pub mod Asked
-pub mod Limits
 pub mod Shapes
-pub mod Taken

@@ -4,7 +4,6 @@
 mod calls;
 mod forms;
 mod lines;
-mod lists;
 mod parser;
 mod stacks;
 

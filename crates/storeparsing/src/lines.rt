@@ -6,12 +6,11 @@ ghost use Rattle.words.specs.Words.{texts, words_of};
 
 use crate::calls::call;
 use crate::forms::{Line, More};
-use crate::lists::numbers;
 use crate::stacks::stack;
 use failures::Failure;
 use std::alloc::Global;
 use storescript::Expected;
-use words::words;
+use words::{numbers, words};
 
 // A command, by its name.
 fn command(heap: Global, name: &str, words: &[&str]) -> Result<Line, Failure<Expected>>

@@ -1,10 +1,12 @@
 ghost use Rattle.std.specs.Prelude.{◌≡◌};
 ghost use Rattle.storeparsing.specs.Stacks.{device_named, stack_of, read_stack};
-ghost use Rattle.words.specs.Numerals.{read_number};
 ghost use Rattle.words.specs.Words.{texts};
 
 use storescript::{Device, Expected, Stack};
-use words::number;
+use words::number_within;
+
+// As many blocks as a store may have.
+const BLOCKS_AT_MOST: u32 = 65_536;
 
 // The device that a word names.
 fn device(word: &str) -> Option<Device>
@@ -17,23 +19,12 @@ fn device(word: &str) -> Option<Device>
     }
 }
 
-// BLOCKS, as many as a store may have.
-#[tactic(auto, using(crate::proofs::Limits::no_number_within))]
-fn blocks(word: &str) -> Option<u32>
-    ensures { result ≡ read_number 10 65536 word.now }
-{
-    match number(word) {
-        Some(blocks) if blocks <= 65_536 => Some(blocks),
-        _ => None,
-    }
-}
-
 // A device's name and BLOCKS.
 fn on_device(mirrored: bool, name: &str, size: &str) -> Result<Stack, Expected>
     ensures { result ≡ stack_of mirrored name.now size.now }
 {
     let device = device(name).ok_or(Expected::StackWords)?;
-    let blocks = blocks(size).ok_or(Expected::Blocks)?;
+    let blocks = number_within(size, BLOCKS_AT_MOST).ok_or(Expected::Blocks)?;
     Ok(Stack {
         device,
         mirrored,

@@ -1,8 +1,8 @@
 -- What a script is answered, from its text to the text that is printed. Assumes nothing.
-use Rattle.std.specs.Prelude.{ℕ, cond, List, [], ◌++◌, Ok, Err, string_bytes, codes, Result, String}
+use Rattle.std.specs.Prelude.{◌≡◌, ℕ, cond, List, [], ◌∷◌, ◌++◌, map, Ok, Err, string_bytes, codes, Result, String}
 use Rattle.std.specs.List.{flat_map, zip}
-use Rattle.failures.specs.Answers.{UnlessMemory}
 use Rattle.failures.specs.declared.Failure.{Failure}
+use Rattle.failures.specs.declared.Failure.TheVariants.{Because, Memory}
 use Rattle.faults.specs.Texts.{refusal_text}
 use Rattle.faults.specs.declared.faults.Fault.{Fault}
 use Rattle.faults.specs.declared.faults.Reason.TheVariants.{OutOfLimits}
@@ -10,7 +10,14 @@ use Rattle.sampling.specs.Answers.{is_size, refusal}
 use Rattle.script.specs.declared.commands.Command.{Command}
 use Rattle.languages.specs.declared.bad_lines.BadLine.{BadLine}
 use Rattle.script.specs.declared.expectations.Expected.{Expected}
-use Rattle.parsing.specs.Scripts.{Plan, read_script}
+use Rattle.parsing.specs.Scripts.{read_script}
+use Rattle.records.specs.Events.{event_fields}
+use Rattle.records.specs.Offsets.{offset_fields}
+use Rattle.records.specs.declared.events.Event.{Event}
+use Rattle.records.specs.declared.offsets.Offset.{Offset}
+use Rattle.script.specs.Plans.{Plan, of_reservoir, of_card}
+use Rattle.script.specs.Shown.{shown_by}
+use Rattle.transcripts.specs.Cards.{CardLines}
 use Rattle.scenarios.specs.Replies.{Reply, replies}
 use Rattle.printing.specs.Lines.{name_of, reply_text}
 
@@ -26,25 +33,34 @@ skipped_text commands = flat_map (λ c. name_of c ++ codes " skipped\n") command
 abbrev pub refused_text : Fault → List ℕ
 refused_text f = codes "reservoir refused " ++ (refusal_text f ++ codes "\n")
 
--- a scenario's lines, the reservoir's own first
+-- the lines of a scenario of a reservoir, the reservoir's own first
 abbrev pub scenario_text : ℕ → ℕ → List Command → List ℕ
 scenario_text size seed commands =
     cond (is_size size) (codes "reservoir ok\n" ++ answers_text commands (replies seed size [] commands))
     (refused_text (refusal OutOfLimits size) ++ skipped_text commands)
 
--- the lines of all scenarios in order
-abbrev pub scenarios_text : List Plan → List ℕ
-scenarios_text plans = flat_map (λ p. scenario_text p.size p.seed p.commands) plans
+-- a scenario's lines
+abbrev pub Lines : Plan Offset Event → List ℕ → Type 0
+Lines (of_reservoir p) text = text ≡ scenario_text p.size p.seed p.commands
+Lines (of_card p) text = CardLines p text
 
--- what is printed of a script that was read
-abbrev pub printed : Result (List Plan) (BadLine Expected) → Result (List ℕ) (BadLine Expected)
-printed (Ok plans) = Ok (scenarios_text plans)
-printed (Err bad) = Err bad
+-- the lines of these scenarios, one after another
+unfoldable pub Printed : List (Plan Offset Event) → List ℕ → Type 0
+Printed [] text = text ≡ []
+Printed (p ∷ ps) text = (here rest : List ℕ) × Lines p here × Printed ps rest × (text ≡ here ++ rest)
 
--- the whole program: from a script's text to what it prints, or to its first bad line
-abbrev pub transcript_of : List ℕ → Result (List ℕ) (BadLine Expected)
-transcript_of script = printed (read_script script)
+-- WHAT IS PRINTED OF A SCRIPT that can be read
+abbrev pub Transcript : List ℕ → List ℕ → Type 0
+Transcript script text = (plans : List (Plan Offset Event)) × (read_script script ≡ Ok (map (shown_by offset_fields event_fields) plans)) × Printed plans text
 
--- r is that; a want of memory says nothing of the script
+-- r is what a script is answered: the text to print, or its first bad line; a want of memory says nothing of it
 abbrev pub Transcribed : {Z : Type 0} → List ℕ → Result (String Z) (Failure (BadLine Expected)) → Type 0
-Transcribed script r = UnlessMemory (λ out. string_bytes out) (transcript_of script) r
+Transcribed script (Ok out) = Transcript script (string_bytes out)
+Transcribed script (Err (Because bad)) = read_script script ≡ Err bad
+Transcribed script (Err Memory) = Unit {0}
+
+-- a scenario's lines come behind what was written; only a want of memory can end that
+abbrev pub Goes : List ℕ → Plan Offset Event → List ℕ → Result (Unit {0}) (Failure (BadLine Expected)) → Type 0
+Goes before p after (Ok done) = (here : List ℕ) × Lines p here × (after ≡ before ++ here)
+Goes before p after (Err (Because bad)) = ⊥
+Goes before p after (Err Memory) = Unit {0}

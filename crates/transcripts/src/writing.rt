@@ -7,7 +7,7 @@ use failures::Failure;
 use faults::{Fault, FaultNumbers};
 use printing::{Said, name};
 use scenarios::{Answer, work};
-use script::{Command, Scenario, Unread};
+use script::{Command, ReservoirScenario, Unread};
 use std::alloc::Global;
 use std::fmt;
 
@@ -46,8 +46,12 @@ impl fmt::Display for Skipped<'_> {
     }
 }
 
-// Works a scenario and writes its lines. Only a want of memory can end that.
-pub(crate) fn scenario(heap: Global, out: &mut String, played: &Scenario) -> Result<(), Unread>
+// Works a scenario of a reservoir and writes its lines. Only a want of memory can end that.
+pub(crate) fn reservoir(
+    heap: Global,
+    out: &mut String,
+    played: &ReservoirScenario,
+) -> Result<(), Unread>
     ensures { UnlessMemory (λ done. string_bytes out.new) (Ok (string_bytes out.old ++ scenario_text played.now.size played.now.seed played.now.commands.items)) result }
 {
     let commands = played.commands.as_slice();

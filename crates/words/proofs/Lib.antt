@@ -1,2 +1,4 @@
 pub mod Counts
-pub mod Numbers
+pub mod Limits
+pub mod PlainNumbers
+pub mod Taken

@@ -1,8 +1,10 @@
 // How a line is cut into words, and which words are numbers.
 #![tactic(auto)]
 
+mod lists;
 mod numerals;
 mod texts;
 
-pub use numerals::{hexadecimal, number};
+pub use lists::numbers;
+pub use numerals::{hexadecimal, number, number_within};
 pub use texts::words;

@@ -23,6 +23,17 @@ where
     plain(word)?.parse::<N>().ok()
 }
 
+// The number that a word of decimal digits writes, if it is at most this.
+#[tactic(auto, using(crate::proofs::Limits::no_number_within))]
+pub fn number_within(word: &str, most: u32) -> Option<u32>
+    ensures { result ≡ read_number 10 most word.now }
+{
+    match number(word) {
+        Some(n) if n <= most => Some(n),
+        _ => None,
+    }
+}
+
 // The number below 2^64 that hexadecimal digits write, with nothing in front of them.
 pub fn hexadecimal(word: &str) -> Option<u64>
     ensures { result ≡ read_number 16 0xFFFF_FFFF_FFFF_FFFF word.now }

@@ -1,7 +1,7 @@
-use Rattle.std.proofs.Common.{◌≡◌, map, take, string_bytes}
-use Rattle.parsing.specs.Scripts.{plan_of}
-use Rattle.transcripts.specs.Transcripts.{scenarios_text}
+use Rattle.std.proofs.Common.{map, string_bytes}
+use Rattle.script.specs.Plans.{plan_of}
+use Rattle.transcripts.specs.Transcripts.{Printed}
 use Rattle.transcripts.proofs.transcript.Given as goal
 
-abbrev pub invariant-loop-scenario : goal.invariant-loop-scenario
-invariant-loop-scenario l = string_bytes l.out ≡ scenarios_text (map plan_of (take l.scenario-index l.scenario-items))
+abbrev pub invariant-loop-told : goal.invariant-loop-told
+invariant-loop-told l = Printed (map plan_of l.yielded) (string_bytes l.out)

@@ -1,5 +1,5 @@
 use Rattle.std.proofs.Common.{refl, ◌∙◌}
-use Rattle.words.proofs.Numbers.{plain_number}
+use Rattle.words.proofs.PlainNumbers.{plain_number}
 use Rattle.parsing.proofs.Numbers.{no_hex}
 use Rattle.parsing.proofs.numerals.seed.Goals as goal
 

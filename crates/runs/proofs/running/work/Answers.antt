@@ -4,7 +4,9 @@ use Rattle.std.proofs.Math.Seq.{take-length}
 use Rattle.laws.specs.Setups.{LawfulSetup}
 use Rattle.laws.proofs.Formatting.{format_law}
 use Rattle.laws.proofs.Runs.{LawSoFar, law_begins, law_more, law_stands}
-use Rattle.runs.specs.Runs.{setup}
+use Rattle.laws.specs.declared.stages.Stage.TheVariants.{Sleeping}
+use Rattle.runs.specs.Runs.{setup, AllWent}
+use Rattle.runs.proofs.Going.{none_went, one_more_went}
 use Rattle.runs.proofs.running.work.Given as given
 use Rattle.runs.proofs.running.work.Goals as goal
 
@@ -22,7 +24,7 @@ lawful g = record {
 
 pub loop-call-init : goal.loop-call-init
 loop-call-init g c =
-    (rw c.in-Ok.ensures.items (law_begins _ (lawful g) c.args.asleep), search rules, search rules)
+    (rw c.in-Ok.ensures.items (law_begins _ (lawful g) c.args.asleep), search rules, search rules, rw c.in-Ok.ensures.items (none_went _ _))
 
 pub loop-call-preserved : goal.loop-call-preserved
 loop-call-preserved g c = (
@@ -30,6 +32,8 @@ loop-call-preserved g c = (
       (law_more _ (lawful g) c.args.asleep _ _ _ _ _ _ c.loop-call.invariant.0 c.step-next.ensures),
   search rules,
   search rules,
+  rw (take_more _ _ c.call-item.result c.loop-call-test.true, c.push_reserved.ensures.items, ← c.call-item.is)
+      (one_more_went _ _ _ _ _ _ _ _ c.loop-call.invariant.3 c.step-next.ensures),
 )
 
 pub returns-clause-law : goal.returns-clause-law
@@ -41,6 +45,15 @@ returns-clause-law g c =
     let all : take c.loop-call.call-index calls ≡ calls = ap (λ (k : ℕ). take k calls) end ∙ take-length calls in
     law_stands _ (lawful g) c.args.asleep calls c.loop-call.answers.items c.loop-call.stage
     (subst (λ cs. LawSoFar (setup g.S.Store.state g.S.Store.meaning g.S.Store.does g.S.Store.own g.S.Store.source g.S.Store.steady g.K.RecordKind.CODE g.K.RecordKind.bytes g.K.RecordKind.wrong) c.args.asleep cs c.loop-call.answers.items c.loop-call.stage) all c.loop-call.invariant.0)
+
+pub returns-clause-went : goal.returns-clause-went
+returns-clause-went g c =
+    let calls = c.args.calls.now in
+    let below = c.loop-call-test.false in
+    let within = c.loop-call.auto.call-index-end in
+    let end : c.loop-call.call-index ≡ length calls = omega arith in
+    let all : take c.loop-call.call-index calls ≡ calls = ap (λ (k : ℕ). take k calls) end ∙ take-length calls in
+    subst (λ cs. AllWent (setup g.S.Store.state g.S.Store.meaning g.S.Store.does g.S.Store.own g.S.Store.source g.S.Store.steady g.K.RecordKind.CODE g.K.RecordKind.bytes g.K.RecordKind.wrong) (Sleeping c.args.asleep) cs c.loop-call.answers.items c.loop-call.stage) all c.loop-call.invariant.3
 
 pub returns-clause-format : goal.returns-clause-format
 returns-clause-format g c = format_law _ (lawful g)

@@ -1,6 +1,6 @@
 use Rattle.std.proofs.Common.{refl, rules}
 use Rattle.words.specs.Numerals.{read_number}
-use Rattle.words.proofs.Numbers.{plain_number}
+use Rattle.words.proofs.PlainNumbers.{plain_number}
 use Rattle.storeparsing.proofs.lines.command.Goals as goal
 
 pub returns-in_err-numbers-in-fuses : goal.returns-in_err-numbers-in-fuses

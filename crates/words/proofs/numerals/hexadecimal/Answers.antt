@@ -1,5 +1,5 @@
 use Rattle.std.proofs.Common.{◌∙◌}
-use Rattle.words.proofs.Numbers.{read_radix}
+use Rattle.words.proofs.PlainNumbers.{read_radix}
 use Rattle.words.proofs.numerals.hexadecimal.Goals as goal
 
 pub returns : goal.returns

@@ -1,4 +1,4 @@
-use Rattle.words.proofs.Numbers.{plain_made}
+use Rattle.words.proofs.PlainNumbers.{plain_made}
 use Rattle.words.proofs.numerals.number.Goals as goal
 
 pub returns : goal.returns

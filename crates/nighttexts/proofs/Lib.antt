@@ -1,0 +1,3 @@
+pub mod TwoDigits
+pub mod Pairs
+pub mod Found

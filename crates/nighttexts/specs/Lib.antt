@@ -1,0 +1,4 @@
+pub mod Lines
+pub mod Reports
+pub mod Nights
+pub mod Memories

@@ -1,0 +1,56 @@
+-- Plans with each record shown as its fields, as a script has it. Assumes nothing.
+use Rattle.std.specs.Prelude.{List, map}
+use Rattle.ledgers.specs.declared.calls.Call as declared_call
+use Rattle.ledgers.specs.declared.calls.Call.TheVariants.{Mount, Wake, Insert, Commit, Refresh, Slot, Close}
+use Rattle.records.specs.Events as events
+use Rattle.records.specs.Offsets as offsets
+use Rattle.script.specs.declared.cards.Ask.{Ask}
+use Rattle.script.specs.declared.cards.Ask.TheVariants.{Calls, NoSuchRecord, Report}
+use Rattle.script.specs.declared.cards.CardScenario.{CardScenario}
+use Rattle.script.specs.declared.cards.Nights as declared_nights
+use Rattle.script.specs.declared.scenarios.Scenario.{Scenario}
+use Rattle.script.specs.Plans.{NightPlan, NightPlans, of_offsets, of_events, CardPlan, Plan, of_reservoir, of_card, night_plans, card_plan, plan_of}
+
+module _ {K F : Type 0} (fields : K → F) where
+  abbrev pub call_shown : declared_call.Call K → declared_call.Call F
+  call_shown Mount = Mount
+  call_shown Wake = Wake
+  call_shown (Insert x) = Insert (fields x)
+  call_shown Commit = Commit
+  call_shown Refresh = Refresh
+  call_shown (Slot i) = Slot i
+  call_shown Close = Close
+
+  abbrev pub ask_shown : Ask K → Ask F
+  ask_shown (Calls c) = Calls (call_shown c)
+  ask_shown (NoSuchRecord e) = NoSuchRecord e
+  ask_shown Report = Report
+
+  abbrev pub night_shown : NightPlan K → NightPlan F
+  night_shown p = record { size = p.size; log_blocks = p.log_blocks; seed = p.seed; asks = map ask_shown p.asks }
+
+module _ {O E P F : Type 0} (offset : O → P) (event : E → F) where
+  abbrev pub nights_shown : NightPlans O E → NightPlans P F
+  nights_shown (of_offsets nights) = of_offsets (map (night_shown offset) nights)
+  nights_shown (of_events nights) = of_events (map (night_shown event) nights)
+
+  abbrev pub card_shown : CardPlan O E → CardPlan P F
+  card_shown p = record { stack = p.stack; fuses = p.fuses; choices = p.choices; nights = nights_shown p.nights; printed = p.printed }
+
+  abbrev pub shown_by : Plan O E → Plan P F
+  shown_by (of_reservoir p) = of_reservoir p
+  shown_by (of_card p) = of_card (card_shown p)
+
+-- a plan as the script has it
+abbrev pub ScriptPlan : Type 0
+ScriptPlan = Plan offsets.Fields events.Fields
+
+-- what a script says of nights, of a card scenario, and of any scenario
+abbrev pub script_nights : declared_nights.Nights → NightPlans offsets.Fields events.Fields
+script_nights nights = nights_shown offsets.offset_fields events.event_fields (night_plans nights)
+
+abbrev pub script_card : CardScenario → CardPlan offsets.Fields events.Fields
+script_card s = card_shown offsets.offset_fields events.event_fields (card_plan s)
+
+abbrev pub script_plan : Scenario → ScriptPlan
+script_plan s = shown_by offsets.offset_fields events.event_fields (plan_of s)
