@@ -1,14 +1,16 @@
 -- Mounting an image, whose memory only writes change and whose supply lasts. Assumes nothing.
-use Rattle.std.proofs.Common.{◌≡◌, ℕ, ◌<◌, true, List, [], ◌∷◌, map, length, Some, None, Ok, Err, Option, Result, refl, sym, ap, subst, ◌∙◌, ⊎_elim}
+use Rattle.std.proofs.Common.{◌≡◌, ℕ, List, [], ◌∷◌, map, length, Some, None, Ok, Err, Option, Result, refl, sym, ap, subst, ◌∙◌, ⊎_elim}
+use Rattle.std.specs.Result.{MatchResult}
 use Rattle.faults.specs.declared.faults.Fault.{Fault}
 use Rattle.faults.specs.declared.faults.Layer.TheVariants.{Device}
-use Rattle.stores.specs.Calls.{Call, Response, reads, restarts, unless, Onward, InOrder}
+use Rattle.stores.specs.Calls.{Call, Response, reads, unless, Onward, InOrder}
 use Rattle.stores.specs.Outcomes.{Answer}
 use Rattle.images.specs.Images.{View, blocks_in, meaning_of, admitted, image_response}
 use Rattle.layouts.specs.Heads.{Fields}
 use Rattle.cards.specs.Memories.{Memory, Remembers}
 use Rattle.cards.specs.Verdicts.{mount_of}
-use Rattle.mounts.specs.Mounts.{Found, MountOutcome, reading, MountCalls}
+use Rattle.mounts.specs.Mounts.{Found, MountOutcome, MountCalls}
+use Rattle.mounts.specs.Reads.{reading}
 use Rattle.cards.proofs.LawfulCards.{size_most}
 use Rattle.samplers.specs.Calls.{Leaves}
 use Rattle.cardreads.specs.Readings.{image_card, memory_read, read_of}
@@ -36,17 +38,20 @@ reads_same v t [] last h = ap (λ (x : View). x.bytes) h.1
 reads_same v t (x ∷ xs) last (w, step, rest) =
     onward_same w.answer v w.next t _ last (ap (λ (u : View). u.bytes) (read_same v x.0 x.1 w step)) rest (λ h. reads_same w.next t xs last h)
 
--- a mount leaves an image's memory as it was
-memory_same : {X : Type 0} (v t : View) (r : Result X Fault) → MountCalls says v r t → t.bytes ≡ v.bytes
-unfolding InOrder
-memory_same v t r (xs, last, (w, step, rest), up) =
-    onward_same w.answer v w.next t _ last (ap (λ (u : Response View). u.next.bytes) step) rest (λ h. reads_same w.next t xs last h)
+after_restart : (a : Answer) (u t : View) (r : Result Memory Fault) (P : Type 0) → MatchResult a (λ done. P) (λ e. (r ≡ Err e) × (t ≡ u)) → (P → t.bytes ≡ u.bytes) → t.bytes ≡ u.bytes
+after_restart (Ok done) u t r P h f = f h
+after_restart (Err e) u t r P h f = ap (λ (x : View). x.bytes) h.1
 
-pub leaves_same : (v t : View) (n : Result ℕ Fault) (memory : Option Memory) → Leaves (λ r. MountCalls says v r t) n memory → t.bytes ≡ v.bytes
-leaves_same v t (Ok k) (Some m) h = memory_same v t (Ok m) h.0
-leaves_same v t (Ok k) None h = absurd h
-leaves_same v t (Err e) None h = memory_same v t (Err e) h
-leaves_same v t (Err e) (Some m) h = absurd h
+-- a mount leaves an image's memory as it was
+memory_same : (code : ℕ) (wrong : List ℕ → Option ℕ) (v t : View) (r : Result Memory Fault) → MountCalls Device code wrong says meaning_of v r t → t.bytes ≡ v.bytes
+memory_same code wrong v t r (w, step, rest) =
+    after_restart w.answer w.next t r _ rest (λ h. reads_same w.next t h.calls h.last h.made) ∙ ap (λ (u : Response View). u.next.bytes) step
+
+pub leaves_same : (code : ℕ) (wrong : List ℕ → Option ℕ) (v t : View) (n : Result ℕ Fault) (memory : Option Memory) → Leaves (λ r. MountCalls Device code wrong says meaning_of v r t) n memory → t.bytes ≡ v.bytes
+leaves_same code wrong v t (Ok k) (Some m) h = memory_same code wrong v t (Ok m) h.0
+leaves_same code wrong v t (Ok k) None h = absurd h
+leaves_same code wrong v t (Err e) None h = memory_same code wrong v t (Err e) h
+leaves_same code wrong v t (Err e) (Some m) h = absurd h
 
 -- it answers what mounting the card in it answers
 found : (code : ℕ) (wrong : List ℕ → Option ℕ) (v t : View) (r : Result Fields Fault) → t.bytes ≡ v.bytes → Found Device code wrong (meaning_of v) (meaning_of t) r

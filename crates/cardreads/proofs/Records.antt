@@ -1,11 +1,10 @@
 -- The records of a sample in memory, one after another. Assumes nothing.
-use Rattle.std.proofs.Common.{◌≡◌, ℕ, zero, suc, ◌+◌, ◌<◌, ◌≤◌, Bool, true, false, cond, ltb, List, [], ◌∷◌, ◌++◌, map, slice_index_or, slice_get, Some, Ok, Err, Result, refl, sym, ap, ◌∙◌, arith, length, length-append}
+use Rattle.std.proofs.Common.{◌≡◌, ℕ, zero, suc, ◌+◌, ◌<◌, ◌≤◌, true, ltb, List, [], ◌∷◌, ◌++◌, map, slice_index_or, slice_get, Some, Ok, Result, refl, sym, ap, ◌∙◌, arith, length, length-append}
 use Rattle.std.proofs.lemmas.Option.{get_or_from_slice_get}
 use Rattle.std.proofs.lemmas.List.{map-append, length-map}
 use Rattle.std.proofs.Math.Numerals.{suc-eq-add-one}
 use Rattle.std.proofs.lemmas.Bool.{lt-ltb}
 use Rattle.faults.specs.declared.faults.Fault.{Fault}
-use Rattle.records.specs.Reading.{shown_as}
 use Rattle.cards.specs.Cards.{Card, slot_record, filled, row_of}
 use Rattle.cards.specs.Memories.{Memory, Remembers}
 use Rattle.layouts.specs.Heads.{Fields}

@@ -1,5 +1,5 @@
 -- What reading a card in memory answers. Assumes nothing.
-use Rattle.std.specs.Prelude.{ℕ, zero, suc, List, [], ◌∷◌, ◌++◌, length, map, Some, None, Ok, Err, Option, Result, slice_index_or, vec_items}
+use Rattle.std.specs.Prelude.{ℕ, zero, suc, List, [], ◌∷◌, ◌++◌, length, Some, None, Ok, Err, Option, Result, slice_index_or}
 use Rattle.faults.specs.declared.faults.Fault.{Fault}
 use Rattle.faults.specs.declared.faults.Layer.TheVariants.{Device}
 use Rattle.faults.specs.declared.faults.Reason.TheVariants.{Off}

@@ -31,7 +31,7 @@ module _ {S State K : Type 0} (x : Setup S State K) where
   -- a mount of a sleeping sampler
   pub record MountWent (v : View S) (r : Result ℕ Fault) (w : View S) : Type 0 where
     pub outcome : Leaves (MountOutcome x.own x.source x.code x.wrong (meant x v.store) (meant x w.store)) r w.sample
-    pub calls : Leaves (λ q. MountCalls x.does (x.state v.store) q (x.state w.store)) r w.sample
+    pub calls : Leaves (λ q. MountCalls x.own x.code x.wrong x.does x.meaning (x.state v.store) q (x.state w.store)) r w.sample
     pub sound : Steadily x.steady (meant x v.store) (meant x w.store)
     pub arrays : (t : Memory) → w.sample ≡ Some t → Arrays t
 

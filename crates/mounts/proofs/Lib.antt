@@ -1,3 +1,4 @@
 pub mod ReadCalls
+pub mod CardCalls
 pub mod Parts
 pub mod Restarts

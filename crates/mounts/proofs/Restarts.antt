@@ -1,16 +1,15 @@
 -- A mount: a restart, and then the card is read. Assumes nothing.
-use Rattle.std.proofs.Common.{◌≡◌, ℕ, ◌<◌, List, Bool, true, false, Option, Ok, Err, Result, refl, sym, ◌∙◌, inl, inr, ⊎_elim, [], map}
+use Rattle.std.proofs.Common.{◌≡◌, ℕ, ◌<◌, List, Bool, true, false, Option, Ok, Err, Result, refl, sym, ◌∙◌, inl, inr, ⊎_elim}
 use Rattle.faults.specs.declared.faults.Fault.{Fault}
 use Rattle.faults.specs.declared.faults.Layer.{Layer}
 use Rattle.stores.specs.Calls.{Call, Response, restarts, response}
 use Rattle.stores.specs.Meanings.{Meaning, Sound, Same, Nothing}
 use Rattle.stores.specs.Outcomes.{Failed, Restarted}
 use Rattle.stores.proofs.Sameness.{settled_same}
-use Rattle.stores.proofs.Sequences.{call_first, call_last}
 use Rattle.stores.proofs.Soundness.{sound_cut, sound_restart}
 use Rattle.cards.specs.Memories.{Memory}
-use Rattle.mounts.specs.Mounts.{reading, MountOutcome, MountCalls}
-use Rattle.mounts.specs.Parts.{Shows, CardOutcome, ReadsOnly}
+use Rattle.mounts.specs.Mounts.{MountOutcome, CardCalls, MountCalls}
+use Rattle.mounts.specs.Parts.{Shows, CardOutcome}
 
 not_lasting : (a b : Bool) → (a ≡ true → b ≡ true) → b ≡ false → a ≡ false
 not_lasting false b f e = refl
@@ -72,9 +71,9 @@ module _ (m k n : Meaning) (restarted : Restarted m k) where
     pub sound_mounted : (r : Result Memory Fault) → CardOutcome own source code wrong k n r → Sound m → Sound n
     sound_mounted r card sound = mount_sound r (mounted r card) sound
 
-module _ {S X : Type 0} (does : S → Call → Response S → Type 0) (s t : S) where
-  pub restart_refused : (e : Fault) → does s restarts (response (Err e) t) → MountCalls {X = X} does s (Err e) t
-  restart_refused e h = ([], Err e, call_last does s t restarts [] e h, refl)
+module _ {S : Type 0} (own : Layer) (code : ℕ) (wrong : List ℕ → Option ℕ) (does : S → Call → Response S → Type 0) (meaning : S → Meaning) (s t : S) where
+  pub restart_refused : (e : Fault) → does s restarts (response (Err e) t) → MountCalls own code wrong does meaning s (Err e) t
+  restart_refused e h = (response (Err e) t, h, (refl, refl))
 
-  pub restart_first : (u : S) (r : Result X Fault) → does s restarts (response (Ok tt) u) → ReadsOnly does u r t → MountCalls does s r t
-  restart_first u r h reads = (reads.blocks, reads.last, call_first does s u t restarts (map reading reads.blocks) reads.last h reads.made, reads.fault)
+  pub restart_first : (u : S) (r : Result Memory Fault) → does s restarts (response (Ok tt) u) → CardCalls own code wrong does meaning u r t → MountCalls own code wrong does meaning s r t
+  restart_first u r h reads = (response (Ok tt) u, h, reads)

@@ -1,13 +1,14 @@
 -- What mounting a store does. Assumes nothing.
-use Rattle.std.specs.Prelude.{◌≡◌, ℕ, ◌⊎◌, List, ◌∷◌, map, Ok, Err, Option, Result, MatchResult, ⊤}
+use Rattle.std.specs.Prelude.{◌≡◌, ℕ, ◌⊎◌, List, Ok, Err, Option, Result, MatchResult}
 use Rattle.faults.specs.declared.faults.Fault.{Fault}
 use Rattle.faults.specs.declared.faults.Layer.{Layer}
-use Rattle.stores.specs.Calls.{Call, Response, reads, restarts, InOrder}
+use Rattle.stores.specs.Calls.{Call, Response, restarts}
 use Rattle.stores.specs.Meanings.{Meaning, Nothing}
-use Rattle.stores.specs.Outcomes.{Answer, Failed, Restarted}
+use Rattle.stores.specs.Outcomes.{Failed, Restarted}
 use Rattle.layouts.specs.Heads.{Fields}
 use Rattle.cards.specs.Memories.{Memory, Remembers}
 use Rattle.cards.specs.Verdicts.{mount_of}
+use Rattle.mounts.specs.Reads.{mount_reads, Checked}
 
 -- the store was restarted, and this is what mounting the card that it now reads answers. Which of what might stand the
 -- restart chose is its own.
@@ -19,11 +20,14 @@ abbrev pub MountOutcome : Layer → Layer → ℕ → (List ℕ → Option ℕ) 
 MountOutcome own source code wrong m n (Ok t) = Found own code wrong m n (Ok t.head) × Remembers t.head n.reads t
 MountOutcome own source code wrong m n (Err e) = Found own code wrong m n (Err e) ⊎ Failed source m n Nothing e
 
--- a read of a block into a buffer that is given
-abbrev pub reading : ℕ × List ℕ → Call
-reading x = reads x.0 x.1
+-- the calls that read the card of a store
+abbrev pub CardCalls : {S : Type 0} → Layer → ℕ → (List ℕ → Option ℕ) → (S → Call → Response S → Type 0) → (S → Meaning) → S → Result Memory Fault → S → Type 0
+CardCalls own code wrong does meaning s answer t =
+    let m = meaning s in
+    Checked does s (mount_reads own m.size code wrong m.reads) (mount_of own m.size code wrong m.reads) answer t
 
--- THE CALLS OF A MOUNT: a restart and then reads, in order. A fault that one of them is answered is the mount's answer.
-abbrev pub MountCalls : {S X : Type 0} → (S → Call → Response S → Type 0) → S → Result X Fault → S → Type 0
-MountCalls {S} {X} does s answer t =
-    (blocks : List (ℕ × List ℕ)) × (last : Answer) × InOrder does s (restarts ∷ map reading blocks) last t × MatchResult last (λ done. ⊤) (λ e. answer ≡ Err e)
+-- THE CALLS OF A MOUNT: a restart, whose fault is the mount's answer; and then, of the card that the restart left, the blocks
+-- that a mount reads
+abbrev pub MountCalls : {S : Type 0} → Layer → ℕ → (List ℕ → Option ℕ) → (S → Call → Response S → Type 0) → (S → Meaning) → S → Result Memory Fault → S → Type 0
+MountCalls {S} own code wrong does meaning s answer t =
+    (w : Response S) × does s restarts w × MatchResult w.answer (λ done. CardCalls own code wrong does meaning w.next answer t) (λ e. (answer ≡ Err e) × (t ≡ w.next))

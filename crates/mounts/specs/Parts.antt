@@ -1,8 +1,8 @@
 -- What the parts of a mount do, which read a store and change nothing. Assumes nothing.
-use Rattle.std.specs.Prelude.{◌≡◌, ℕ, ◌+◌, ◌<◌, ◌≤◌, Bool, true, false, ◌⊎◌, List, map, Ok, Err, Option, Result, MatchResult, ⊤}
+use Rattle.std.specs.Prelude.{◌≡◌, ℕ, ◌+◌, ◌<◌, ◌≤◌, Bool, true, false, ◌⊎◌, List, [], ◌∷◌, Ok, Err, Option, Result}
 use Rattle.faults.specs.declared.faults.Fault.{Fault}
 use Rattle.faults.specs.declared.faults.Layer.{Layer}
-use Rattle.stores.specs.Calls.{Call, Response, InOrder}
+use Rattle.stores.specs.Calls.{Call, Response}
 use Rattle.stores.specs.Meanings.{whole, Meaning, Same, Nothing}
 use Rattle.stores.specs.Outcomes.{Answer, Failed}
 use Rattle.layouts.specs.Heads.{Fields, head_fields, card_blocks}
@@ -12,7 +12,7 @@ use Rattle.cards.specs.Memories.{Memory, Remembers}
 use Rattle.cards.specs.Progress.{LogRead, Flagged, RowsLaid, RowsRead, SlotsRead}
 use Rattle.cards.specs.Verdicts.{read_at, head_of, each, entry_check, slot_check, mount_of}
 use Rattle.mounts.specs.declared.logs.Log.{Log}
-use Rattle.mounts.specs.Mounts.{reading}
+use Rattle.mounts.specs.Reads.{fetched, no_check, entry_reads, slot_reads, log_reads, sample_reads, Checked}
 
 -- a store that is on, and whose blocks read as the card's
 pub record Shows (m : Meaning) (card : Card) : Type 0 where
@@ -74,9 +74,29 @@ Mounted own store code wrong card t = (mount_of own store code wrong card ≡ Ok
 pub record CardOutcome (own source : Layer) (code : ℕ) (wrong : List ℕ → Option ℕ) (m n : Meaning) (r : Result Memory Fault) : Type 0 where
   pub each_card : (card : Card) → Shows m card → PartOutcome source m n (mount_of own m.size code wrong card) (Mounted own m.size code wrong card) r
 
--- only reads were made, in order; a fault that one of them is answered is the answer
-pub record ReadsOnly {S X : Type 0} (does : S → Call → Response S → Type 0) (s : S) (answer : Result X Fault) (t : S) : Type 0 where
-  pub blocks : List (ℕ × List ℕ)
-  pub last : Answer
-  pub made : InOrder does s (map reading blocks) last t
-  pub fault : MatchResult last (λ done. ⊤) (λ e. answer ≡ Err e)
+-- And each says which blocks it reads.
+
+-- a fault that is answered is that of the read
+abbrev pub FetchCalls : {S : Type 0} → (S → Call → Response S → Type 0) → S → ℕ → Bool → Answer → S → Type 0
+FetchCalls does s b is_new r t = Checked does s (fetched is_new b) no_check r t
+
+abbrev pub HeadCalls : {S : Type 0} → Layer → ℕ → (S → Call → Response S → Type 0) → (S → Meaning) → S → Result Head Fault → S → Type 0
+HeadCalls own code does meaning s r t = (card : Card) → Shows (meaning s) card → Checked does s (0 ∷ []) (head_of own (meaning s).size code card) r t
+
+abbrev pub EntryCalls : {S : Type 0} → Layer → (List ℕ → Option ℕ) → Fields → (S → Call → Response S → Type 0) → (S → Meaning) → S → ℕ → Log → Answer → S → Type 0
+EntryCalls own wrong h does meaning s i before r t =
+    (card : Card) → Holds (meaning s) h card → i < h.entries → LogHas own wrong h card i before → Checked does s (entry_reads h i) (entry_check own wrong h card i) r t
+
+abbrev pub LogCalls : {S : Type 0} → Layer → (List ℕ → Option ℕ) → Fields → (S → Call → Response S → Type 0) → (S → Meaning) → S → Result Log Fault → S → Type 0
+LogCalls own wrong h does meaning s r t =
+    (card : Card) → Holds (meaning s) h card → Checked does s (log_reads own wrong h card) (each (entry_check own wrong h card) h.entries) r t
+
+abbrev pub SlotCalls : {S : Type 0} → Layer → (List ℕ → Option ℕ) → (S → Call → Response S → Type 0) → (S → Meaning) → S → ℕ → List Bool → List (List ℕ) → List ℕ → Answer → S → Type 0
+SlotCalls own wrong does meaning s slot flags rows block r t =
+    (h : Fields) (card : Card) → Holds (meaning s) h card → slot < h.size → Flagged h card flags → SlotsRead own wrong h card slot rows block
+    → Checked does s (slot_reads slot) (slot_check own wrong h card slot) r t
+
+abbrev pub SlotsCalls : {S : Type 0} → Layer → (List ℕ → Option ℕ) → Fields → (S → Call → Response S → Type 0) → (S → Meaning) → S → List Bool → List (List ℕ) → Answer → S → Type 0
+SlotsCalls own wrong h does meaning s flags before r t =
+    (card : Card) → Holds (meaning s) h card → Flagged h card flags → RowsLaid h card before
+    → Checked does s (sample_reads own wrong h card) (each (slot_check own wrong h card) (filled h)) r t

@@ -3,8 +3,8 @@
 
 ghost use Rattle.std.specs.Prelude.{◌≡◌, true};
 ghost use Rattle.stores.specs.Meanings.{Steadily};
-ghost use Rattle.mounts.specs.Mounts.{MountOutcome, MountCalls};
-ghost use Rattle.mounts.specs.Parts.{CardOutcome, ReadsOnly};
+ghost use Rattle.mounts.specs.Mounts.{MountOutcome, CardCalls, MountCalls};
+ghost use Rattle.mounts.specs.Parts.{CardOutcome};
 
 mod blocks;
 mod heads;
@@ -26,7 +26,7 @@ use stores::Store;
 pub fn mount<S: Store, K: RecordKind>(store: &mut S) -> Result<Sample<K>, Fault>
     ensures outcome { MountOutcome S.Store.own S.Store.source K.CODE K.wrong (S.Store.meaning (S.Store.state store.old)) (S.Store.meaning (S.Store.state store.new)) result }
     ensures sound { Steadily S.Store.steady (S.Store.meaning (S.Store.state store.old)) (S.Store.meaning (S.Store.state store.new)) }
-    ensures calls { MountCalls S.Store.does (S.Store.state store.old) result (S.Store.state store.new) }
+    ensures calls { MountCalls S.Store.own K.CODE K.wrong S.Store.does S.Store.meaning (S.Store.state store.old) result (S.Store.state store.new) }
 {
     store.restart()?;
     read_card::<S, K>(store)
@@ -36,7 +36,7 @@ pub fn mount<S: Store, K: RecordKind>(store: &mut S) -> Result<Sample<K>, Fault>
 fn read_card<S: Store, K: RecordKind>(store: &mut S) -> Result<Sample<K>, Fault>
     requires { (S.Store.meaning (S.Store.state store.old)).on ≡ true }
     ensures outcome { CardOutcome S.Store.own S.Store.source K.CODE K.wrong (S.Store.meaning (S.Store.state store.old)) (S.Store.meaning (S.Store.state store.new)) result }
-    ensures calls { ReadsOnly S.Store.does (S.Store.state store.old) result (S.Store.state store.new) }
+    ensures calls { CardCalls S.Store.own K.CODE K.wrong S.Store.does S.Store.meaning (S.Store.state store.old) result (S.Store.state store.new) }
 {
     let head = read_head::<S, K>(store)?;
     let mut log = read_log::<S, K>(store, &head)?;

@@ -1,7 +1,7 @@
 ghost use Rattle.std.specs.Prelude.{◌≡◌, ◌<◌, true, IfSome, slice_set};
 ghost use Rattle.layouts.specs.Heads.{head_fields};
 ghost use Rattle.cards.specs.Progress.{right_slot};
-ghost use Rattle.mounts.specs.Parts.{EntryOutcome, LogOutcome, ReadsOnly};
+ghost use Rattle.mounts.specs.Parts.{EntryOutcome, LogOutcome, EntryCalls, LogCalls};
 
 use crate::blocks::fetch;
 use cards::entry_block;
@@ -58,7 +58,7 @@ fn read_entry<S: Store, K: RecordKind>(
     log: &mut Log,
 ) -> Result<(), Fault>
     ensures outcome { EntryOutcome S.Store.own S.Store.source K.wrong (head_fields head.now) (S.Store.meaning (S.Store.state store.old)) (S.Store.meaning (S.Store.state store.new)) position log.old log.new result }
-    ensures calls { ReadsOnly S.Store.does (S.Store.state store.old) result (S.Store.state store.new) }
+    ensures calls { EntryCalls S.Store.own K.wrong (head_fields head.now) S.Store.does S.Store.meaning (S.Store.state store.old) position log.old result (S.Store.state store.new) }
 {
     let block = entry_block(head, position);
     fetch(store, block, position % BLOCK_ENTRIES == 0, &mut log.work)?;
@@ -74,7 +74,7 @@ fn read_entry<S: Store, K: RecordKind>(
 // Reads the entries of the log.
 pub(crate) fn read_log<S: Store, K: RecordKind>(store: &mut S, head: &Head) -> Result<Log, Fault>
     ensures outcome { LogOutcome S.Store.own S.Store.source K.wrong (head_fields head.now) (S.Store.meaning (S.Store.state store.old)) (S.Store.meaning (S.Store.state store.new)) result }
-    ensures calls { ReadsOnly S.Store.does (S.Store.state store.old) result (S.Store.state store.new) }
+    ensures calls { LogCalls S.Store.own K.wrong (head_fields head.now) S.Store.does S.Store.meaning (S.Store.state store.old) result (S.Store.state store.new) }
 {
     let mut log = Log {
         rows: [[0; RECORD_BYTES]; ROWS],

@@ -1,6 +1,6 @@
 ghost use Rattle.std.specs.Prelude.{◌<◌};
 ghost use Rattle.layouts.specs.Heads.{head_fields};
-ghost use Rattle.mounts.specs.Parts.{SlotOutcome, SlotsOutcome, ReadsOnly};
+ghost use Rattle.mounts.specs.Parts.{SlotOutcome, SlotsOutcome, SlotCalls, SlotsCalls};
 
 use crate::blocks::fetch;
 use cards::{filled, slot_block};
@@ -22,7 +22,7 @@ fn read_slot<S: Store, K: RecordKind>(
 ) -> Result<(), Fault>
     requires { slot < 672 }
     ensures outcome { SlotOutcome S.Store.own S.Store.source K.wrong (S.Store.meaning (S.Store.state store.old)) (S.Store.meaning (S.Store.state store.new)) slot logged.now rows.old block.old rows.new block.new result }
-    ensures calls { ReadsOnly S.Store.does (S.Store.state store.old) result (S.Store.state store.new) }
+    ensures calls { SlotCalls S.Store.own K.wrong S.Store.does S.Store.meaning (S.Store.state store.old) slot logged.now rows.old block.old result (S.Store.state store.new) }
 {
     fetch(store, slot_block(slot), slot % BLOCK_SLOTS == 0, block)?;
     if !logged[usize::from(slot)] {
@@ -43,7 +43,7 @@ pub(crate) fn read_slots<S: Store, K: RecordKind>(
     rows: &mut [[u8; RECORD_BYTES]; ROWS],
 ) -> Result<(), Fault>
     ensures outcome { SlotsOutcome S.Store.own S.Store.source K.wrong (head_fields head.now) (S.Store.meaning (S.Store.state store.old)) (S.Store.meaning (S.Store.state store.new)) logged.now rows.old rows.new result }
-    ensures calls { ReadsOnly S.Store.does (S.Store.state store.old) result (S.Store.state store.new) }
+    ensures calls { SlotsCalls S.Store.own K.wrong (head_fields head.now) S.Store.does S.Store.meaning (S.Store.state store.old) logged.now rows.old result (S.Store.state store.new) }
 {
     let mut block = [0; BLOCK_BYTES];
     let end = filled(head);

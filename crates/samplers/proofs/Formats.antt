@@ -1,5 +1,5 @@
 -- A format whose numbers are within their limits. Assumes nothing.
-use Rattle.std.proofs.Common.{◌≡◌, ℕ, ◌+◌, ◌<◌, ◌≤◌, Bool, true, false, cond, leb, Ok, Err, Some, None, Result, refl, sym, ap, subst, ◌∙◌, arith}
+use Rattle.std.proofs.Common.{◌≡◌, ℕ, Bool, true, false, cond, leb, Ok, Err, None, Result, refl, sym, ap, subst, ◌∙◌}
 use Rattle.std.proofs.lemmas.Bool.{leb-true, leb-false}
 use Rattle.faults.specs.declared.faults.Fault.{Fault}
 use Rattle.faults.specs.declared.faults.Layer.{Layer}
@@ -14,7 +14,7 @@ use Rattle.cards.specs.Memories.{Memory}
 use Rattle.formats.specs.Formats.{FormatOutcome, FormatCalls}
 use Rattle.samples.specs.Memories.{new_head, blank_memory}
 use Rattle.samplers.specs.Views.{View}
-use Rattle.samplers.specs.Calls.{format_test, formatted, Served, FormatsBy, Formats}
+use Rattle.samplers.specs.Calls.{formatted, FormatsBy, Formats}
 
 -- a shape has the numbers that it was made of
 shape_cases : (a b : Bool) (e f : Fault) (x y : ℕ × ℕ) → ◌≡◌ {A = Result (ℕ × ℕ) Fault} (Ok x) (cond a (cond b (Ok y) (Err e)) (Err f)) → x ≡ y

@@ -7,7 +7,6 @@ use Rattle.sampling.specs.Answers.{refusal}
 use Rattle.stores.specs.Calls.{Call, Response, InOrder}
 use Rattle.stores.specs.Meanings.{Meaning}
 use Rattle.stores.specs.Outcomes.{Answer}
-use Rattle.layouts.specs.Heads.{Fields}
 use Rattle.layouts.specs.Shapes.{blocks, shape_of}
 use Rattle.cards.specs.Memories.{Memory}
 use Rattle.cards.specs.Verdicts.{and_then, check}

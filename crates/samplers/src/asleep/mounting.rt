@@ -18,7 +18,7 @@ impl<S: SteadyStore, K: RecordKind> Asleep<S, K> {
         ensures outcome { Leaves (MountOutcome S.Store.own S.Store.source K.CODE K.wrong (S.Store.meaning (S.Store.state self.old.store)) (S.Store.meaning (S.Store.state self.new.store))) result self.new.sample }
         ensures law { CardLaw S.Store.own K.CODE K.wrong }
         ensures sound { Steadily S.Store.steady (S.Store.meaning (S.Store.state self.old.store)) (S.Store.meaning (S.Store.state self.new.store)) }
-        ensures calls { Leaves (λ r. MountCalls S.Store.does (S.Store.state self.old.store) r (S.Store.state self.new.store)) result self.new.sample }
+        ensures calls { Leaves (λ r. MountCalls S.Store.own K.CODE K.wrong S.Store.does S.Store.meaning (S.Store.state self.old.store) r (S.Store.state self.new.store)) result self.new.sample }
         ensures arrays { (t : Memory) → self.new.sample ≡ Some t → Arrays t }
     {
         // A refused mount leaves the sampler dark.

@@ -1,6 +1,4 @@
-use Rattle.std.proofs.Common.{◌≡◌, List, map, Ok, Result, sym, ap, ◌∙◌}
-use Rattle.faults.specs.declared.faults.Fault.{Fault}
-use Rattle.layouts.specs.Heads.{Fields}
+use Rattle.std.proofs.Common.{◌≡◌, map, sym, ap, ◌∙◌}
 use Rattle.cards.specs.Cards.{filled}
 use Rattle.cards.specs.Memories.{Memory}
 use Rattle.cardreads.specs.Readings.{rows_of}

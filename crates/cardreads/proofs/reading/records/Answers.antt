@@ -1,4 +1,4 @@
-use Rattle.std.proofs.Common.{rules, refl}
+use Rattle.std.proofs.Common.{rules}
 use Rattle.cardreads.specs.Readings.{firsts}
 use Rattle.cardreads.proofs.Records.{one_more}
 use Rattle.cardreads.proofs.reading.records.Goals as goal

@@ -5,10 +5,18 @@ use Rattle.stores.specs.Meanings.{whole}
 use Rattle.sampling.specs.Answers.{refusal}
 use Rattle.layouts.specs.Heads.{head_fields}
 use Rattle.cards.specs.Cards.{entry_block}
-use Rattle.cards.specs.Verdicts.{previous}
+use Rattle.cards.specs.Verdicts.{previous, entry_check}
 use Rattle.cards.specs.Progress.{right_slot}
 use Rattle.cards.proofs.Entries.{entry_refused, entry_taken}
+use Rattle.mounts.specs.Reads.{no_check, entry_reads}
+use Rattle.mounts.proofs.ReadCalls.{reads_failed, reads_answered}
 use Rattle.mounts.proofs.logs.read_entry.Goals as goal
+
+pub returns-in_err-fetch-clause-calls : goal.returns-in_err-fetch-clause-calls
+returns-in_err-fetch-clause-calls g c = λ card holds within log.
+    let p = err_from_is_err_and c.from_residual.result c.from_residual.ensures.1 in
+    let check = entry_check g.S.Store.own g.K.RecordKind.wrong (head_fields c.args.head.now) card c.args.position in
+    rw (p.1, p.2) (reads_failed g.S.Store.does _ _ check (entry_reads (head_fields c.args.head.now) c.args.position) _ (rw c.entry_block-block.ensures at c.in_err-fetch.ensures.calls))
 
 pub returns-in_err-slot-clause-outcome : goal.returns-in_err-slot-clause-outcome
 returns-in_err-slot-clause-outcome g c = λ card holds within log.
@@ -22,6 +30,25 @@ returns-in_err-slot-clause-outcome g c = λ card holds within log.
     let none : right_slot wrong h (previous h card i) c.decode-entry.result ≡ None = search rules in
     let is : c.in_err-slot.field-0.0 ≡ refusal BadEntry i = search rules in
     rw (p.1, p.2, is) (inl (fetched.0, entry_refused own wrong h card i c.fetch.new.buffer c.decode-entry.result block c.decode-entry.ensures.value none))
+
+pub returns-in_err-slot-clause-calls : goal.returns-in_err-slot-clause-calls
+returns-in_err-slot-clause-calls g c = λ card holds within log.
+    let own = g.S.Store.own in
+    let wrong = g.K.RecordKind.wrong in
+    let h = head_fields c.args.head.now in
+    let i = c.args.position in
+    let p = err_from_is_err_and c.from_residual-in_err-slot.result c.from_residual-in_err-slot.ensures.1 in
+    let fetched = c.in_ok-fetch.ensures.outcome card holds.shows (search rules) (search rules) in
+    let block : card (entry_block h i) ≡ whole c.fetch.new.buffer = search rules in
+    let none : right_slot wrong h (previous h card i) c.decode-entry.result ≡ None = search rules in
+    let is : c.in_err-slot.field-0.0 ≡ refusal BadEntry i = search rules in
+    let refused = entry_refused own wrong h card i c.fetch.new.buffer c.decode-entry.result block c.decode-entry.ensures.value none in
+    rw (p.1, p.2, is) (reads_answered g.S.Store.does _ _ no_check (entry_check own wrong h card i) (entry_reads h i) tt _ (rw c.entry_block-block.ensures at c.in_ok-fetch.ensures.calls) refused)
+
+pub returns-clause-calls : goal.returns-clause-calls
+returns-clause-calls g c = λ card holds within log.
+    let check = entry_check g.S.Store.own g.K.RecordKind.wrong (head_fields c.args.head.now) card c.args.position in
+    reads_answered g.S.Store.does _ _ no_check check (entry_reads (head_fields c.args.head.now) c.args.position) tt no_check (rw c.entry_block-block.ensures at c.in_ok-fetch.ensures.calls) tt
 
 pub returns-clause-outcome : goal.returns-clause-outcome
 returns-clause-outcome g c = λ card holds within log.

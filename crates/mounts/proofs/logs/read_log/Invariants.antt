@@ -1,18 +1,19 @@
-use Rattle.std.proofs.Common.{Ok}
 use Rattle.stores.specs.Meanings.{Same}
-use Rattle.stores.specs.Outcomes.{Answer}
 use Rattle.layouts.specs.Heads.{head_fields}
 use Rattle.cards.specs.Cards.{Card}
-use Rattle.mounts.specs.Parts.{Holds, LogHas, ReadsOnly}
+use Rattle.cards.specs.Verdicts.{each, entry_check}
+use Rattle.mounts.specs.Parts.{Holds, LogHas}
+use Rattle.mounts.specs.Reads.{each_reads, entry_reads, no_check, Checked}
 use Rattle.mounts.proofs.logs.read_log.Given as goal
 
 abbrev pub invariant-loop-position : goal.invariant-loop-position
 invariant-loop-position g l =
-    let m = g.S.Store.meaning (g.S.Store.state l.initial.store) in
-    let n = g.S.Store.meaning (g.S.Store.state l.store) in
+    let s = g.S.Store.state l.initial.store in
+    let t = g.S.Store.state l.store in
     let h = head_fields l.head in
-    let done : Answer = Ok tt in
+    let checks = λ (card : Card). entry_check g.S.Store.own g.K.RecordKind.wrong h card in
     record {
-      calls : ReadsOnly g.S.Store.does (g.S.Store.state l.initial.store) done (g.S.Store.state l.store);
-      outcome : (card : Card) → Holds m h card → Same m n × LogHas g.S.Store.own g.K.RecordKind.wrong h card l.position l.log;
+      calls : (card : Card) → Holds (g.S.Store.meaning s) h card
+          → Checked g.S.Store.does s (each_reads (checks card) (entry_reads h) l.position) (each (checks card) l.position) no_check t;
+      outcome : (card : Card) → Holds (g.S.Store.meaning s) h card → Same (g.S.Store.meaning s) (g.S.Store.meaning t) × LogHas g.S.Store.own g.K.RecordKind.wrong h card l.position l.log;
     }
