@@ -8,16 +8,16 @@ use Rattle.std.proofs.lemmas.Option.{slice_get-map}
 use Rattle.stores.specs.Meanings.{Content, whole, torn}
 use Rattle.benches.specs.declared.held.Held.{Held}
 use Rattle.benches.specs.Held.{writes_of, latest, content, shown}
-use Rattle.benches.specs.Lawful.{Of, bytes_of}
+use Rattle.benches.specs.Lawful.{Of, held_bytes}
 use Rattle.benches.proofs.Writes.{latest_of, latest_found}
 
-bytes_copied : (o : Option (Bor Held)) → option_map (λ (h : Bor Held). h.now.bytes) o ≡ option_map bytes_of (option_copied o)
+bytes_copied : (o : Option (Bor Held)) → option_map (λ (h : Bor Held). h.now.bytes) o ≡ option_map held_bytes (option_copied o)
 bytes_copied None = refl
 bytes_copied (Some h) = refl
 
 -- the bytes of the held write of a block that has this number
 pub nth_is : (hs : List Held) (b k : ℕ) (o : Option (Bor Held)) → option_copied o ≡ slice_get (filter (Of b) hs) k → option_map (λ (h : Bor Held). h.now.bytes) o ≡ slice_get (writes_of hs b) k
-nth_is hs b k o e = bytes_copied o ∙ ap (option_map bytes_of) e ∙ sym (slice_get-map bytes_of (filter (Of b) hs) k)
+nth_is hs b k o e = bytes_copied o ∙ ap (option_map held_bytes) e ∙ sym (slice_get-map held_bytes (filter (Of b) hs) k)
 
 -- what a block shows is its last held write, or else what is settled there
 pub look_is : (c : Content) (hs xs : List Held) (b : ℕ) (o : Option Held) → xs ≡ hs → o ≡ find (λ (h : Held). h.block == b) (reverse xs) → shown (latest_of c o) ≡ shown (latest c (writes_of hs b))

@@ -11,12 +11,12 @@ use Rattle.stores.specs.Meanings.{Content, whole, torn}
 use Rattle.benches.specs.declared.held.Held.{Held}
 use Rattle.benches.specs.Held.{content, settled, settled_all, writes_of, latest, Among, Inside}
 use Rattle.benches.proofs.Contents.{settled_here, settled_other, length_settled}
-use Rattle.benches.specs.Lawful.{Of, bytes_of, hit, miss, inside_head, inside_tail}
+use Rattle.benches.specs.Lawful.{Of, held_bytes, hit, miss, inside_head, inside_tail}
 
 writes_push : (hs : List Held) (h : Held) (b : ℕ) → writes_of (hs ++ h ∷ []) b ≡ writes_of hs b ++ writes_of (h ∷ []) b
 writes_push hs h b =
-    ap (λ (xs : List Held). map bytes_of xs) (filter-append (Of b) hs (h ∷ []))
-    ∙ map-append bytes_of (filter (Of b) hs) (filter (Of b) (h ∷ []))
+    ap (λ (xs : List Held). map held_bytes xs) (filter-append (Of b) hs (h ∷ []))
+    ∙ map-append held_bytes (filter (Of b) hs) (filter (Of b) (h ∷ []))
 
 pub push_hit : (hs : List Held) (h : Held) (b : ℕ) → h.block ≡ b → writes_of (hs ++ h ∷ []) b ≡ writes_of hs b ++ h.bytes ∷ []
 push_hit hs h b e = writes_push hs h b ∙ ap (λ (xs : List (List ℕ)). writes_of hs b ++ xs) (hit h [] b e)
@@ -93,7 +93,7 @@ neither c (Some x) = refl
 find_first : (hs : List Held) (h : Held) (b : ℕ) → find (Of b) (reverse (h ∷ hs)) ≡ option_or (find (Of b) (reverse hs)) (cond (h.block == b) (Some h) None)
 find_first hs h b = ap (find (Of b)) (reverse-append (h ∷ []) hs) ∙ find-append (Of b) (reverse hs) (h ∷ [])
 
-found_by : (t : Bool) (c : Content) (h : Held) (hs : List Held) (b : ℕ) → ((d : Content) → latest d (writes_of hs b) ≡ latest_of d (find (Of b) (reverse hs))) → latest c (map bytes_of (cond t (h ∷ filter (Of b) hs) (filter (Of b) hs))) ≡ latest_of c (option_or (find (Of b) (reverse hs)) (cond t (Some h) None))
+found_by : (t : Bool) (c : Content) (h : Held) (hs : List Held) (b : ℕ) → ((d : Content) → latest d (writes_of hs b) ≡ latest_of d (find (Of b) (reverse hs))) → latest c (map held_bytes (cond t (h ∷ filter (Of b) hs) (filter (Of b) hs))) ≡ latest_of c (option_or (find (Of b) (reverse hs)) (cond t (Some h) None))
 found_by true c h hs b more = more (whole h.bytes) ∙ either c h (find (Of b) (reverse hs))
 found_by false c h hs b more = more c ∙ neither c (find (Of b) (reverse hs))
 

@@ -63,6 +63,10 @@ bench_response v (writes b bytes) = unless (admitted v b (length bytes)) [] v (r
 bench_response v flushes = response (powered Device (goes v.power)) (flushed v)
 bench_response v restarts = response (Ok tt) (awoken v)
 
+-- what a bench does: of each call just what it says
+abbrev pub bench_does : Contents → Call → Response Contents → Type 0
+bench_does v c r = r ≡ bench_response v c
+
 -- a new bench: the memory as it was given, off, with nothing held
 abbrev pub fresh : Given → View
 fresh g =

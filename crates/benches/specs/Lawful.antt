@@ -13,16 +13,16 @@ abbrev pub Of : ℕ → Held → Bool
 Of b h = h.block == b
 
 -- what a held write brings
-abbrev pub bytes_of : Held → List ℕ
-bytes_of h = h.bytes
+abbrev pub held_bytes : Held → List ℕ
+held_bytes h = h.bytes
 
 -- a write of block b counts among the writes of b, and stands first where it is first
 pub hit : (h : Held) (hs : List Held) (b : ℕ) → h.block ≡ b → writes_of (h ∷ hs) b ≡ h.bytes ∷ writes_of hs b
-hit h hs b e = ap (λ (xs : List Held). map bytes_of xs) (cond-true (h.block == b) (h ∷ filter (Of b) hs) (filter (Of b) hs) (eq-eqb h.block b e))
+hit h hs b e = ap (λ (xs : List Held). map held_bytes xs) (cond-true (h.block == b) (h ∷ filter (Of b) hs) (filter (Of b) hs) (eq-eqb h.block b e))
 
 -- a write of another block does not
 pub miss : (h : Held) (hs : List Held) (b : ℕ) → (h.block ≢ b) → writes_of (h ∷ hs) b ≡ writes_of hs b
-miss h hs b e = ap (λ (xs : List Held). map bytes_of xs) (cond-false (h.block == b) (h ∷ filter (Of b) hs) (filter (Of b) hs) (ne_eqb h.block b e))
+miss h hs b e = ap (λ (xs : List Held). map held_bytes xs) (cond-false (h.block == b) (h ∷ filter (Of b) hs) (filter (Of b) hs) (ne_eqb h.block b e))
 
 -- the last write, or else what is settled, is one of what may stand
 pub latest_stands : (c : Content) (ws : List (List ℕ)) → (latest c ws ≡ c) ⊎ Among ws (latest c ws)

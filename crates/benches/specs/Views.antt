@@ -46,5 +46,6 @@ pub record Contents : Type 0 where
   pub power : Power
   pub left : List ℕ
 
+-- a bench's, by what a caller sees of it
 abbrev pub contents_of : View → Contents
 contents_of v = record { mem = v.mem; held = v.held; fuses = v.fuses; power = v.power; left = v.left }

@@ -8,7 +8,7 @@ use std::alloc::{AllocError, Global};
 use std::test::Fail;
 
 // Two events: a satellite lost at second 7, and a holdover at second 9.
-fn events(heap: Global) -> Result<Vec<u8>, AllocError> {
+pub(crate) fn events(heap: Global) -> Result<Vec<u8>, AllocError> {
     let mut bytes = card(heap, 2, 2, 0)?;
     put(&mut bytes, SAMPLE, &[0, 0, 0, 7, 1, 31, 0, 0, 0, 0, 0, 0]);
     put(

@@ -91,10 +91,16 @@ fn nights_leave_their_card_on_every_stack(rt: HostRuntime) -> Result<(), Fail> {
             steady: *steady,
             blocks: *blocks,
         };
-        let Played { answers, memory } = play(heap, stack, Vec::new(heap), Vec::new(heap), &given)?;
+        let Played { outcomes, memory } = play(
+            heap,
+            stack,
+            Vec::new(heap),
+            Vec::new(heap),
+            &given,
+        )?;
         same(
             &rt,
-            outcome(&answers),
+            outcome(&outcomes),
             Some((7, 3, Reason::StoreTooSmall)),
             *bytes,
         );
@@ -119,10 +125,10 @@ fn refreshed_card_is_that_made_by_hand(rt: HostRuntime) -> Result<(), Fail> {
         steady: Steady::Image,
         blocks: 3,
     };
-    let Played { answers, memory } = play(heap, stack, Vec::new(heap), Vec::new(heap), &given)?;
+    let Played { outcomes, memory } = play(heap, stack, Vec::new(heap), Vec::new(heap), &given)?;
     same(
         &rt,
-        outcome(&answers),
+        outcome(&outcomes),
         Some((9, 1, Reason::StoreTooSmall)),
         0,
     );

@@ -103,6 +103,12 @@ fn formatted_card_mounts_with_no_records(rt: HostRuntime) -> Result<(), Fail> {
     let mut asleep = awake.close();
     same(&rt, asleep.format(2, 1, 0), Ok(()), 1);
     same(&rt, asleep.mount(), Ok(0), 1);
+    let awake = asleep.wake();
+    is_empty(&rt, &awake, 2);
+    // The layers are put together anew, over what the sampler's life left.
+    let bytes = awake.close().into_store().into_bytes();
+    let mut asleep = Sleeper::new(Image::new(bytes));
+    same(&rt, asleep.mount(), Ok(0), 2);
     is_empty(&rt, &asleep.wake(), 2);
     Ok(())
 }

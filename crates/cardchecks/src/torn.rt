@@ -39,7 +39,7 @@ fn bench(heap: Global, bytes: Vec<u8>) -> Result<Bench, AllocError> {
 #[test]
 fn torn_block_refuses_the_mount(rt: HostRuntime) -> Result<(), Fail> {
     let heap = rt.alloc();
-    for block in 0..3u8 {
+    for block in 0..3u8 { // block up to 2
         let mirror = Mirror::new(bench(heap, torn_twice(heap, usize::from(block))?)?);
         let mut asleep: Asleep<Mirror<Bench>, Offset> = Asleep::new(mirror);
         let fault = Fault {

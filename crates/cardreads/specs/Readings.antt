@@ -12,8 +12,8 @@ use Rattle.cards.specs.Verdicts.{and_then, mount_of}
 use Rattle.cards.specs.Memories.{Memory}
 
 -- a card's head, and the bytes of the record of each filled slot
-abbrev pub Contents : Type 0
-Contents = Fields × List (List ℕ)
+abbrev pub CardContents : Type 0
+CardContents = Fields × List (List ℕ)
 
 -- what each of the first n slots has
 unfoldable pub firsts : (ℕ → List ℕ) → ℕ → List (List ℕ)
@@ -25,7 +25,7 @@ abbrev pub rows_of : Memory → List (List ℕ)
 rows_of t = firsts (λ s. slice_index_or t.rows s []) (filled t.head)
 
 -- what is in a sampler's memory; a dark one refuses
-abbrev pub memory_read : Option Memory → Result Contents Fault
+abbrev pub memory_read : Option Memory → Result CardContents Fault
 memory_read None = Err (refusal Off 0)
 memory_read (Some t) = Ok (t.head, rows_of t)
 
@@ -34,10 +34,10 @@ abbrev pub image_card : List ℕ → Card
 image_card bytes b = whole (block bytes b)
 
 -- what a lawful card has
-abbrev pub contents_of : Card → Fields → Contents
-contents_of card h = (h, firsts (slot_record h card) (filled h))
+abbrev pub card_contents : Card → Fields → CardContents
+card_contents card h = (h, firsts (slot_record h card) (filled h))
 
 -- THE READING of these bytes as the card of a kind: the refusal of its mount, or its head and each filled slot's record
-abbrev pub read_of : ℕ → (List ℕ → Option ℕ) → List ℕ → Result Contents Fault
+abbrev pub read_of : ℕ → (List ℕ → Option ℕ) → List ℕ → Result CardContents Fault
 read_of code wrong bytes =
-    and_then (mount_of Device (blocks_in (length bytes)) code wrong (image_card bytes)) (λ h. Ok (contents_of (image_card bytes) h))
+    and_then (mount_of Device (blocks_in (length bytes)) code wrong (image_card bytes)) (λ h. Ok (card_contents (image_card bytes) h))

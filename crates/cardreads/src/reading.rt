@@ -1,5 +1,5 @@
 ghost use Rattle.std.specs.Prelude.{◌≡◌, map, vec_items, Ok};
-ghost use Rattle.failures.specs.Answers.{UnlessMemory};
+ghost use Rattle.failures.specs.Answers.{UnlessMemoryForOk};
 ghost use Rattle.layouts.specs.Heads.{head_fields};
 ghost use Rattle.cardreads.specs.Readings.{memory_read, read_of, rows_of};
 
@@ -17,7 +17,7 @@ use stores::SteadyStore;
 
 // The record of each filled slot of a sample in memory, slot 0 first.
 fn records<K: RecordKind>(heap: Global, sample: &Sample<K>) -> Result<Vec<K>, Failure<Fault>>
-    ensures { UnlessMemory (λ records. map K.bytes records.items) (Ok (rows_of sample.now)) result }
+    ensures { UnlessMemoryForOk (λ records. map K.bytes records.items) (Ok (rows_of sample.now)) result }
 {
     let mut records = Vec::new(heap);
     for slot in 0..sample.filled() { // up to filled - 1
@@ -32,7 +32,7 @@ fn reading<S: SteadyStore, K: RecordKind>(
     heap: Global,
     awake: &Awake<S, K>,
 ) -> Result<Reading<K>, Failure<Fault>>
-    ensures { UnlessMemory (λ r. (head_fields r.head, map K.bytes r.records.items)) (memory_read awake.now.sample) result }
+    ensures { UnlessMemoryForOk (λ r. (head_fields r.head, map K.bytes r.records.items)) (memory_read awake.now.sample) result }
 {
     let Some(sample) = awake.sample() else {
         return Err(Failure::Because(Sampler.fault(Off, 0)));
@@ -50,7 +50,7 @@ pub fn read_card<K: RecordKind>(
     bytes: Vec<u8>,
 ) -> (Vec<u8>, Result<Reading<K>, Failure<Fault>>)
     ensures memory { vec_items result.0 ≡ vec_items bytes }
-    ensures answer { UnlessMemory (λ r. (head_fields r.head, map K.bytes r.records.items)) (read_of K.CODE K.wrong (vec_items bytes)) result.1 }
+    ensures answer { UnlessMemoryForOk (λ r. (head_fields r.head, map K.bytes r.records.items)) (read_of K.CODE K.wrong (vec_items bytes)) result.1 }
 {
     let mut asleep: Asleep<Image, K> = Asleep::new(Image::new(bytes));
     let mounted = asleep.mount();

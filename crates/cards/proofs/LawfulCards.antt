@@ -9,8 +9,8 @@ use Rattle.faults.specs.Refusals.{fault}
 use Rattle.sampling.specs.Answers.{refusal}
 use Rattle.stores.specs.Meanings.{Content, whole, torn}
 use Rattle.layouts.specs.Heads.{Fields, keeps_limits, fields_at, lawful_head, bad_head, head_read}
-use Rattle.cards.specs.Cards.{Card, slot_block, card_slot, entry_block, card_entry, entry_slot, logged, filled}
-use Rattle.cards.specs.Verdicts.{and_then, check, each, read_at, read_head, of_kind, head_of, previous, entry_right, entry_check, slot_check, body_check, mount_of}
+use Rattle.cards.specs.Cards.{Card, slot_block, card_slot, entry_block, card_entry, entry_slot, newest_logged, filled}
+use Rattle.cards.specs.Verdicts.{and_then, check, each, read_at, read_head, of_kind, head_of, previous, right_slot, entry_check, slot_check, body_check, mount_of}
 use Rattle.cards.specs.Lawful.{IsWhole, LawfulLog, LawfulSlots, CardLaw}
 use Rattle.cards.proofs.Checks.{then_ok, ok_then, each_ok, ok_each, check_ok}
 
@@ -35,14 +35,15 @@ some_of : {A : Type 0} (o : Option A) → is_some o ≡ true → (x : A) × (o �
 some_of None e = absurd cc
 some_of (Some x) e = (x, refl)
 
-four_true : (a b c d : Bool) → (((a && b) && c) && d) ≡ true → (a ≡ true) × (b ≡ true) × (c ≡ true) × (d ≡ true)
-four_true true true true d e = (refl, refl, refl, e)
-four_true true true false d e = absurd cc
-four_true true false c d e = absurd cc
-four_true false b c d e = absurd cc
+-- what an entry with a right slot is, test by test
+right_parts : {A : Type 0} (a b c : Bool) (o : Option A) → is_some (cond ((a && b) && c) o None) ≡ true → (a ≡ true) × (b ≡ true) × (c ≡ true) × (is_some o ≡ true)
+right_parts true true true o e = (refl, refl, refl, e)
+right_parts true true false o e = absurd cc
+right_parts true false c o e = absurd cc
+right_parts false b c o e = absurd cc
 
-true_four : (a b c d : Bool) → a ≡ true → b ≡ true → c ≡ true → d ≡ true → (((a && b) && c) && d) ≡ true
-true_four a b c d p q r s = rw (p, q, r, s) refl
+parts_right : {A : Type 0} (a b c : Bool) (o : Option A) → a ≡ true → b ≡ true → c ≡ true → is_some o ≡ true → is_some (cond ((a && b) && c) o None) ≡ true
+parts_right a b c o p q r s = rw (p, q, r) s
 
 and_left : (a b : Bool) → (a && b) ≡ true → a ≡ true
 and_left true b e = refl
@@ -63,20 +64,20 @@ is_none_of o w = rw w refl
 right_of : (own : Layer) (wrong : List ℕ → Option ℕ) (h : Fields) (card : Card) (i : ℕ) → entry_check own wrong h card i ≡ Ok tt → Right wrong h card i
 right_of own wrong h card i e =
     let p = then_ok (read_at own (entry_block h i) (card (entry_block h i))) _ tt e in
-    let q = four_true _ _ _ _ (check_ok (entry_right wrong h (previous h card i) (card_entry h card i) (entry_slot h card i)) (refusal BadEntry i) p.2) in
+    let q = right_parts _ _ _ (entry_slot h card i) (check_ok (is_some (right_slot wrong h (previous h card i) (card_entry h card i))) (refusal BadEntry i) p.2) in
     record {
       block = (p.0, read_ok own _ _ _ p.1);
       ascends = ltb-true _ _ q.0;
       counted = leb-true _ _ q.1;
-      candidate = some_of _ q.2;
-      record_is = none_of _ q.3;
+      candidate = some_of _ q.3;
+      record_is = none_of _ q.2;
     }
 
 right_check : (own : Layer) (wrong : List ℕ → Option ℕ) (h : Fields) (card : Card) (i : ℕ) → Right wrong h card i → entry_check own wrong h card i ≡ Ok tt
 right_check own wrong h card i r =
     ok_then (read_at own (entry_block h i) (card (entry_block h i))) _ _ tt (whole_read own _ _ r.block)
-    (true_check (entry_right wrong h (previous h card i) (card_entry h card i) (entry_slot h card i)) (refusal BadEntry i)
-    (true_four _ _ _ _ (lt-ltb _ _ r.ascends) (le-leb _ _ r.counted) (is_some_of _ r.candidate) (is_none_of _ r.record_is)))
+    (true_check (is_some (right_slot wrong h (previous h card i) (card_entry h card i))) (refusal BadEntry i)
+    (parts_right _ _ _ (entry_slot h card i) (lt-ltb _ _ r.ascends) (le-leb _ _ r.counted) (is_none_of _ r.record_is) (is_some_of _ r.candidate)))
 
 -- each entry's number is above those of all before it
 ascends : (h : Fields) (card : Card) (wrong : List ℕ → Option ℕ) (n i : ℕ) → ((k : ℕ) → k < suc n → Right wrong h card k) → i < n
@@ -129,7 +130,7 @@ passes_slot (Some x) w f = refl
 
 pub slots_of : (own : Layer) (wrong : List ℕ → Option ℕ) (h : Fields) (card : Card) → each (slot_check own wrong h card) (filled h) ≡ Ok tt → LawfulSlots wrong h card
 slots_of own wrong h card e =
-    let parts : (s : ℕ) → s < filled h → (bs : List ℕ) × (read_at own (slot_block s) (card (slot_block s)) ≡ Ok bs) × (check (is_some (logged h card s h.entries) || is_none (wrong (card_slot card s))) (refusal BadSlot s) ≡ Ok tt) =
+    let parts : (s : ℕ) → s < filled h → (bs : List ℕ) × (read_at own (slot_block s) (card (slot_block s)) ≡ Ok bs) × (check (is_some (newest_logged h card s h.entries) || is_none (wrong (card_slot card s))) (refusal BadSlot s) ≡ Ok tt) =
     λ s l. then_ok (read_at own (slot_block s) (card (slot_block s))) _ tt (each_ok _ _ s e l) in
     record {
       whole_blocks = λ s l. ((parts s l).0, read_ok own _ _ _ (parts s l).1);
@@ -140,7 +141,7 @@ slots_check : (own : Layer) (wrong : List ℕ → Option ℕ) (h : Fields) (card
 slots_check own wrong h card l =
     ok_each _ _ (λ s m.
     ok_then (read_at own (slot_block s) (card (slot_block s))) _ _ tt (whole_read own _ _ (l.whole_blocks s m))
-    (true_check (is_some (logged h card s h.entries) || is_none (wrong (card_slot card s))) (refusal BadSlot s) (passes_slot _ _ (l.records s m))))
+    (true_check (is_some (newest_logged h card s h.entries) || is_none (wrong (card_slot card s))) (refusal BadSlot s) (passes_slot _ _ (l.records s m))))
 
 -- the head
 kind_cases : (b : Bool) (code : ℕ) (g h : Fields) → eqb g.kind code ≡ b → cond b (Ok g) (Err (refusal OtherKind g.kind)) ≡ Ok h → (g ≡ h) × (h.kind ≡ code)

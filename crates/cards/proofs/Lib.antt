@@ -4,3 +4,4 @@ pub mod Logs
 pub mod Entries
 pub mod Rows
 pub mod Mounting
+pub mod Determinacy

@@ -7,8 +7,8 @@ use Rattle.std.proofs.lemmas.Option.{get_or_from_slice_get}
 use Rattle.faults.specs.declared.faults.Fault.{Fault}
 use Rattle.faults.specs.declared.faults.Layer.{Layer}
 use Rattle.layouts.specs.Heads.{Fields}
-use Rattle.cards.specs.Cards.{Card, card_slot, logged, slot_record, filled}
-use Rattle.cards.specs.Memories.{Remembers, Lawful}
+use Rattle.cards.specs.Cards.{Card, card_slot, newest_logged, slot_record, filled}
+use Rattle.cards.specs.Memories.{Remembers, RowsLawful}
 use Rattle.cards.specs.Verdicts.{and_then, each, entry_check, slot_check, head_of, body_check, mount_of}
 use Rattle.cards.specs.Lawful.{LawfulLog}
 use Rattle.cards.proofs.LawfulCards.{log_of, slots_of}
@@ -41,11 +41,11 @@ module _ (own : Layer) (wrong : List ℕ → Option ℕ) (h : Fields) (card : Ca
 
     slot_lawful : (s : ℕ) → s < filled h → wrong (slot_record h card s) ≡ None
     slot_lawful s l =
-        lawful_or wrong (logged h card s h.entries) (card_slot card s)
+        lawful_or wrong (newest_logged h card s h.entries) (card_slot card s)
         (λ bs k. logged_record wrong h card s h.entries bs (λ i m. entries.records i m) k)
         (λ none. (slots_of own wrong h card slots.right).records s l none)
 
-    pub lawful : h.size ≤ 672 → Lawful wrong h rows
+    pub lawful : h.size ≤ 672 → RowsLawful wrong h rows
     lawful most s l =
         let is : slice_get rows s ≡ Some (slot_record h card s) = slots.row s (omega arith) ∙ ap (λ (x : List ℕ). Some x) (below s (filled h) _ _ l) in
         rw (get_or_from_slice_get rows s (slot_record h card s) [] is) (slot_lawful s l)

@@ -12,7 +12,7 @@ use Rattle.sampling.specs.Answers.{refusal}
 use Rattle.sampling.specs.Samples.{is_slot}
 use Rattle.layouts.specs.Heads.{Fields}
 use Rattle.layouts.specs.Slots.{slot_at}
-use Rattle.cards.specs.Cards.{Card, slot_block, card_slot, logged, slot_record}
+use Rattle.cards.specs.Cards.{Card, slot_block, card_slot, newest_logged, slot_record}
 use Rattle.cards.specs.Verdicts.{check, slot_check}
 use Rattle.cards.proofs.Checks.{each_none, each_more}
 use Rattle.cards.specs.Progress.{Flagged, RowsLaid, SlotsRead}
@@ -48,8 +48,8 @@ without None x e = refl
 without (Some z) x e = absurd (cc e)
 
 -- whether a slot has an entry, by its flag
-pub flag_is : (h : Fields) (card : Card) (flags : List Bool) (s : ℕ) (b : Bool) → Flagged h card flags → s < 672 → slice_index_or flags s false ≡ b → is_some (logged h card s h.entries) ≡ b
-flag_is h card flags s b flagged l e = sym (get_or_from_slice_get flags s (is_some (logged h card s h.entries)) false (flagged s l)) ∙ e
+pub flag_is : (h : Fields) (card : Card) (flags : List Bool) (s : ℕ) (b : Bool) → Flagged h card flags → s < 672 → slice_index_or flags s false ≡ b → is_some (newest_logged h card s h.entries) ≡ b
+flag_is h card flags s b flagged l e = sym (get_or_from_slice_get flags s (is_some (newest_logged h card s h.entries)) false (flagged s l)) ∙ e
 
 module _ (own : Layer) (wrong : List ℕ → Option ℕ) (h : Fields) (card : Card) where
   -- no slot is read yet
@@ -58,14 +58,14 @@ module _ (own : Layer) (wrong : List ℕ → Option ℕ) (h : Fields) (card : Ca
       (record { right = each_none (slot_check own wrong h card); row = λ t l. e t l ∙ ap (λ (x : List ℕ). Some x) (sym (past t 0 _ _ (omega arith))) }, λ n. absurd (n refl))
 
   module _ (s : ℕ) (bytes : List ℕ) (block : card (slot_block s) ≡ whole bytes) where
-    check_is : slot_check own wrong h card s ≡ check (is_some (logged h card s h.entries) || is_none (wrong (slot_at bytes (s % 42)))) (refusal BadSlot s)
+    check_is : slot_check own wrong h card s ≡ check (is_some (newest_logged h card s h.entries) || is_none (wrong (slot_at bytes (s % 42)))) (refusal BadSlot s)
     check_is = rw block refl
 
     next_block : suc s % 42 ≢ 0 → card (slot_block (suc s)) ≡ whole bytes
     next_block n = ap card (same_block s n) ∙ block
 
     -- a slot with an entry
-    pub slot_over : (rows : List (List ℕ)) (before : List ℕ) → is_some (logged h card s h.entries) ≡ true → SlotsRead own wrong h card s rows before → SlotsRead own wrong h card (s + 1) rows bytes
+    pub slot_over : (rows : List (List ℕ)) (before : List ℕ) → is_some (newest_logged h card s h.entries) ≡ true → SlotsRead own wrong h card s rows before → SlotsRead own wrong h card (s + 1) rows bytes
     slot_over rows before some read = rw add-one (
       record {
         right = each_more (slot_check own wrong h card) s (Ok tt) read.0.right (check_is ∙ rw some refl);
@@ -73,16 +73,16 @@ module _ (own : Layer) (wrong : List ℕ → Option ℕ) (h : Fields) (card : Ca
             ∙ ⊎_elim
             (λ (same : t ≡ s). rw same
             (ap (λ (x : List ℕ). Some x)
-            (past s s _ _ (omega arith) ∙ either_way (logged h card s h.entries) (replicate 12 0) (card_slot card s) some ∙ sym (below s (suc s) _ _ (omega arith)))))
+            (past s s _ _ (omega arith) ∙ either_way (newest_logged h card s h.entries) (replicate 12 0) (card_slot card s) some ∙ sym (below s (suc s) _ _ (omega arith)))))
             (λ (other : t ≢ s). ap (λ (x : List ℕ). Some x) (below_more s t _ _ other))
             (cases_eq t s);
       },
       next_block,
     )
 
-    module _ (x : List ℕ) (none : is_some (logged h card s h.entries) ≡ false) (is : x ≡ slot_at bytes (s % 42)) where
+    module _ (x : List ℕ) (none : is_some (newest_logged h card s h.entries) ≡ false) (is : x ≡ slot_at bytes (s % 42)) where
       here : slot_record h card s ≡ x
-      here = without (logged h card s h.entries) (card_slot card s) none ∙ rw block (sym is)
+      here = without (newest_logged h card s h.entries) (card_slot card s) none ∙ rw block (sym is)
 
       -- a slot whose bytes are no record's
       pub slot_refused : is_none (wrong x) ≡ false → slot_check own wrong h card s ≡ Err (refusal BadSlot s)

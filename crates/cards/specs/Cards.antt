@@ -23,6 +23,7 @@ bytes_of torn = []
 abbrev pub slot_block : ℕ → ℕ
 slot_block s = 1 + s / 42
 
+-- the bytes in the sample blocks at slot s
 abbrev pub card_slot : Card → ℕ → List ℕ
 card_slot card s = slot_at (bytes_of (card (slot_block s))) (s % 42)
 
@@ -39,13 +40,13 @@ abbrev pub entry_slot : Fields → Card → ℕ → Option ℕ
 entry_slot h card i = slot_of h.seed h.size (card_entry h card i).number
 
 -- of the first n entries, the record of the newest with slot s
-unfoldable pub logged : Fields → Card → ℕ → ℕ → Option (List ℕ)
-logged h card s zero = None
-logged h card s (suc i) = cond (is_slot (entry_slot h card i) s) (Some (card_entry h card i).bytes) (logged h card s i)
+unfoldable pub newest_logged : Fields → Card → ℕ → ℕ → Option (List ℕ)
+newest_logged h card s zero = None
+newest_logged h card s (suc i) = cond (is_slot (entry_slot h card i) s) (Some (card_entry h card i).bytes) (newest_logged h card s i)
 
 -- A SLOT'S RECORD: that of the newest entry with the slot, else that in the sample block
 abbrev pub slot_record : Fields → Card → ℕ → List ℕ
-slot_record h card s = unwrap_or (logged h card s h.entries) (card_slot card s)
+slot_record h card s = unwrap_or (newest_logged h card s h.entries) (card_slot card s)
 
 -- how many slots records have filled: the first so many
 abbrev pub filled : Fields → ℕ

@@ -4,7 +4,7 @@ use Rattle.std.specs.Prelude.{◌≡◌, ℕ, ◌<◌, ◌≤◌, List, None, So
 use Rattle.faults.specs.declared.faults.Layer.{Layer}
 use Rattle.stores.specs.Meanings.{Content, whole}
 use Rattle.layouts.specs.Heads.{Fields, head_read}
-use Rattle.cards.specs.Cards.{Card, slot_block, card_slot, entry_block, card_entry, entry_slot, logged, filled}
+use Rattle.cards.specs.Cards.{Card, slot_block, card_slot, entry_block, card_entry, entry_slot, newest_logged, filled}
 use Rattle.cards.specs.Verdicts.{mount_of}
 
 -- a block that is not torn
@@ -23,7 +23,7 @@ pub record LawfulLog (wrong : List ℕ → Option ℕ) (h : Fields) (card : Card
 -- the sample blocks: a filled slot without an entry has a record's bytes
 pub record LawfulSlots (wrong : List ℕ → Option ℕ) (h : Fields) (card : Card) : Type 0 where
   pub whole_blocks : (s : ℕ) → s < filled h → IsWhole (card (slot_block s))
-  pub records : (s : ℕ) → s < filled h → logged h card s h.entries ≡ None → wrong (card_slot card s) ≡ None
+  pub records : (s : ℕ) → s < filled h → newest_logged h card s h.entries ≡ None → wrong (card_slot card s) ≡ None
 
 -- A LAWFUL CARD with this head, in a store of so many blocks, for the kind with this code
 pub record LawfulCard (store code : ℕ) (wrong : List ℕ → Option ℕ) (card : Card) (h : Fields) : Type 0 where

@@ -1,16 +1,17 @@
 -- What mounting a card answers: the checks of its head, its log and its sample blocks in order, and the first refusal.
 -- Assumes nothing.
-use Rattle.std.specs.Prelude.{ℕ, zero, suc, Bool, cond, ◌&&◌, ◌||◌, List, Ok, Err, Option, Result, ◌==◌, nat_le, nat_lt, is_some, is_none}
+use Rattle.std.specs.Prelude.{ℕ, zero, suc, Bool, cond, ◌&&◌, ◌||◌, List, None, Ok, Err, Option, Result, ◌==◌, nat_le, nat_lt, is_some, is_none}
 use Rattle.faults.specs.Refusals.{fault}
 use Rattle.faults.specs.declared.faults.Fault.{Fault}
 use Rattle.faults.specs.declared.faults.Layer.{Layer}
 use Rattle.faults.specs.declared.faults.Reason.TheVariants.{NoSuchBlock, Torn, OtherKind, BadEntry, BadSlot}
 use Rattle.sampling.specs.Answers.{refusal}
+use Rattle.sampling.specs.Draws.{slot_of}
 use Rattle.stores.specs.Meanings.{Content, whole, torn}
 use Rattle.stores.specs.Outcomes.{Answer}
 use Rattle.layouts.specs.Heads.{Fields, head_read}
 use Rattle.layouts.specs.declared.entries.Entry.{Entry}
-use Rattle.cards.specs.Cards.{Card, slot_block, card_slot, entry_block, card_entry, entry_slot, logged, filled}
+use Rattle.cards.specs.Cards.{Card, slot_block, card_slot, entry_block, card_entry, newest_logged, filled}
 
 -- one check after another: a refusal ends them
 abbrev pub and_then : {A B : Type 0} → Result A Fault → (A → Result B Fault) → Result B Fault
@@ -35,10 +36,11 @@ read_at own b torn = Err (fault Torn own b)
 abbrev pub read_head : Layer → ℕ → Card → Result (List ℕ) Fault
 read_head own store card = cond (nat_lt 0 store) (read_at own 0 (card 0)) (Err (fault NoSuchBlock own 0))
 
--- THE HEAD: a lawful one, and of this kind
+-- THE HEAD: one of another kind is refused
 abbrev pub of_kind : ℕ → Fields → Result Fields Fault
 of_kind code h = cond (h.kind == code) (Ok h) (Err (refusal OtherKind h.kind))
 
+-- the head of the card: block 0 can be read, and has a lawful head of this kind
 abbrev pub head_of : Layer → ℕ → ℕ → Card → Result Fields Fault
 head_of own store code card = and_then (and_then (read_head own store card) (head_read store)) (of_kind code)
 
@@ -47,21 +49,25 @@ abbrev pub previous : Fields → Card → ℕ → ℕ
 previous h card zero = 0
 previous h card (suc i) = (card_entry h card i).number
 
--- an entry is right if its number ascends, is at most the count and is a candidate's, and its bytes are a record's
-abbrev pub entry_right : (List ℕ → Option ℕ) → Fields → ℕ → Entry → Option ℕ → Bool
-entry_right wrong h before e slot = nat_lt before e.number && nat_le e.number h.count && is_some slot && is_none (wrong e.bytes)
+-- the slot of an entry's record, if the entry is right after one with this number: its own number is above that, is at most
+-- the count and is a candidate's, and its bytes are a record's
+abbrev pub right_slot : (List ℕ → Option ℕ) → Fields → ℕ → Entry → Option ℕ
+right_slot wrong h before e =
+    cond (nat_lt before e.number && nat_le e.number h.count && is_none (wrong e.bytes)) (slot_of h.seed h.size e.number) None
 
+-- the entry at position i: its block can be read, and it is right after the entry before
 abbrev pub entry_check : Layer → (List ℕ → Option ℕ) → Fields → Card → ℕ → Answer
 entry_check own wrong h card i =
     and_then (read_at own (entry_block h i) (card (entry_block h i)))
-    (λ _. check (entry_right wrong h (previous h card i) (card_entry h card i) (entry_slot h card i)) (refusal BadEntry i))
+    (λ _. check (is_some (right_slot wrong h (previous h card i) (card_entry h card i))) (refusal BadEntry i))
 
 -- THE SAMPLE BLOCKS: a filled slot without an entry has a record
 abbrev pub slot_check : Layer → (List ℕ → Option ℕ) → Fields → Card → ℕ → Answer
 slot_check own wrong h card s =
     and_then (read_at own (slot_block s) (card (slot_block s)))
-    (λ _. check (is_some (logged h card s h.entries) || is_none (wrong (card_slot card s))) (refusal BadSlot s))
+    (λ _. check (is_some (newest_logged h card s h.entries) || is_none (wrong (card_slot card s))) (refusal BadSlot s))
 
+-- THE BODY: all entries of the log, and then all filled slots
 abbrev pub body_check : Layer → (List ℕ → Option ℕ) → Fields → Card → Answer
 body_check own wrong h card = and_then (each (entry_check own wrong h card) h.entries) (λ _. each (slot_check own wrong h card) (filled h))
 

@@ -12,11 +12,12 @@ use Rattle.records.specs.declared.offsets.Offset.{Offset}
 use Rattle.records.specs.Events.{event_bytes, event_wrong}
 use Rattle.records.specs.Offsets.{offset_bytes, offset_wrong}
 use Rattle.layouts.specs.Heads.{head_fields}
-use Rattle.cardreads.specs.Readings.{Contents, read_of}
+use Rattle.cardreads.specs.Readings.{CardContents, read_of}
 use Rattle.cardreads.specs.declared.readings.Reading.{Reading}
 use Rattle.cardtexts.specs.declared.readings.AnyReading.{AnyReading}
 use Rattle.cardtexts.specs.declared.readings.AnyReading.TheVariants.{Offsets, Events}
 
+-- whether it is the refusal of a card of another kind
 abbrev pub is_other_kind : Reason → Bool
 is_other_kind OtherKind = true
 is_other_kind other = false
@@ -37,20 +38,20 @@ named_kind (Ok r) events = Ok (Offsets r)
 named_kind (Err why) events = cond (is_of_events why) (as_events events) (Err why)
 
 -- what a card of either kind has, with the kind's code
-abbrev pub seen : AnyReading → ℕ × Contents
+abbrev pub seen : AnyReading → ℕ × CardContents
 seen (Offsets r) = (1, (head_fields r.head, map offset_bytes r.records.items))
 seen (Events r) = (2, (head_fields r.head, map event_bytes r.records.items))
 
 -- the same with a kind's code
-abbrev pub of_code : ℕ → Result Contents Fault → Result (ℕ × Contents) Fault
+abbrev pub of_code : ℕ → Result CardContents Fault → Result (ℕ × CardContents) Fault
 of_code code (Ok c) = Ok (code, c)
 of_code code (Err e) = Err e
 
 -- a card that was refused as one of offsets is one of events, or is refused so
-abbrev pub else_events : List ℕ → Result Contents Fault → Result (ℕ × Contents) Fault
+abbrev pub else_events : List ℕ → Result CardContents Fault → Result (ℕ × CardContents) Fault
 else_events bytes (Ok c) = Ok (1, c)
 else_events bytes (Err e) = cond (is_of_events (Because e)) (of_code 2 (read_of 2 event_wrong bytes)) (Err e)
 
 -- THE CARD IN THESE BYTES as of the kind that its head names
-abbrev pub any_read_of : List ℕ → Result (ℕ × Contents) Fault
+abbrev pub any_read_of : List ℕ → Result (ℕ × CardContents) Fault
 any_read_of bytes = else_events bytes (read_of 1 offset_wrong bytes)

@@ -1,7 +1,6 @@
 // What is printed of a card that was read, and of one that was refused.
 #![tactic(auto)]
 
-mod averages;
 mod lines;
 mod readings;
 mod refusals;

@@ -5,12 +5,11 @@ ghost use Rattle.layouts.specs.Heads.{head_fields};
 ghost use Rattle.sampletexts.specs.Lines.{offset_text, event_text};
 ghost use Rattle.cardtexts.specs.Texts.{head_text, slots_text, offsets_text, events_text, card_text};
 
-use crate::averages::mean;
 use crate::readings::AnyReading;
 use cardreads::Reading;
 use layouts::Head;
 use records::{Event, Offset};
-use sampletexts::{EventWords, MeanLine, OffsetNumbers, SlotLine};
+use sampletexts::{EventWords, MeanLine, OffsetNumbers, SlotLine, mean};
 use std::fmt;
 
 // A head's lines, but for its kind.

@@ -1,5 +1,5 @@
 ghost use Rattle.std.specs.Prelude.{◌≡◌, vec_items};
-ghost use Rattle.failures.specs.Answers.{UnlessMemory};
+ghost use Rattle.failures.specs.Answers.{UnlessMemoryForOk};
 ghost use Rattle.cardtexts.specs.Kinds.{is_of_events, named_kind, seen, any_read_of};
 ghost use Rattle.failures.specs.declared.Failure.TheVariants.{Because};
 
@@ -36,7 +36,7 @@ impl AnyReading {
 
 // Reads the card in these bytes as of the kind that its head names.
 pub fn read_any_card(heap: Global, bytes: Vec<u8>) -> Result<AnyReading, Failure<Fault>>
-    ensures { UnlessMemory seen (any_read_of (vec_items bytes)) result }
+    ensures { UnlessMemoryForOk seen (any_read_of (vec_items bytes)) result }
 {
     let (bytes, offsets) = read_card(heap, bytes);
     let (_bytes, events) = read_card(heap, bytes);

@@ -5,8 +5,7 @@ use Rattle.faults.specs.declared.faults.Fault.{Fault}
 use Rattle.stores.specs.Calls.{Call, Response, InOrder}
 use Rattle.stores.proofs.Sequences.{lists_joined, list_ended}
 use Rattle.cards.specs.Memories.{Memory}
-use Rattle.workings.specs.Refreshes.{touched, row_writes, touched_blocks}
-use Rattle.commits.specs.Steps.{row_write}
+use Rattle.workings.specs.Refreshes.{touched, row_write, row_writes, touched_blocks}
 
 module _ {S : Type 0} (does : S → Call → Response S → Type 0) (s u v : S) (t : Memory) where
   pub no_writes : InOrder does s (row_writes t 0) (Ok tt) s

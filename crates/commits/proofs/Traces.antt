@@ -8,7 +8,7 @@ use Rattle.stores.specs.Outcomes.{Answer, WriteOutcome, FlushOutcome}
 use Rattle.stores.proofs.Sequences.{one_call, call_first, call_last, lists_joined, list_ended}
 use Rattle.layouts.specs.Heads.{Fields, fields_bytes}
 use Rattle.traces.specs.Traces.{Made, Trace}
-use Rattle.commits.specs.Steps.{head_calls}
+use Rattle.workings.specs.Commits.{head_calls}
 
 module _ {State : Type 0} (does : State → Call → Response State → Type 0) (meaning : State → Meaning) (own source : Layer) (steady : Bool) where
   -- a call that was made, a write and a flush

@@ -1,8 +1,7 @@
 ghost use Rattle.std.specs.Prelude.{◌≡◌};
 ghost use Rattle.layouts.specs.Heads.{head_fields};
 ghost use Rattle.traces.specs.Traces.{Trace};
-ghost use Rattle.workings.specs.Commits.{has_uncommitted, log_writes, commit_calls};
-ghost use Rattle.commits.specs.Steps.{head_calls};
+ghost use Rattle.workings.specs.Commits.{has_uncommitted, log_writes, head_calls, commit_calls};
 
 use cards::entry_block;
 use faults::Fault;

@@ -1,7 +1,7 @@
 ghost use Rattle.std.specs.Prelude.{◌≡◌, ◌*◌, ◌<◌, IfOk};
 ghost use Rattle.traces.specs.Traces.{Trace};
-ghost use Rattle.workings.specs.Refreshes.{touched, row_writes, touched_blocks, of_block, joined};
-ghost use Rattle.commits.specs.Steps.{unnumbered, row_write, sample_blocks_of};
+ghost use Rattle.workings.specs.Refreshes.{touched, row_write, row_writes, touched_blocks, of_block, joined};
+ghost use Rattle.commits.specs.Steps.{unnumbered, sample_blocks_of};
 
 use faults::Fault;
 use layouts::BLOCK_SLOTS;

@@ -1,11 +1,17 @@
 -- The calls that write blocks one after another and then settle them, put together. Assumes nothing.
-use Rattle.std.proofs.Common.{ℕ, zero, suc, ◌+◌, ◌<◌, List, Ok, Err, refl, ⊎_elim, arith, add-one}
+use Rattle.std.proofs.Common.{ℕ, zero, suc, ◌+◌, ◌<◌, ◌⊎◌, List, Ok, Err, refl, ⊎_elim, arith, add-one}
 use Rattle.std.proofs.lemmas.Bool.{cases_eq}
 use Rattle.faults.specs.declared.faults.Fault.{Fault}
 use Rattle.stores.specs.Calls.{Call, Response, response, writes, flushes, InOrder}
+use Rattle.stores.specs.Meanings.{Content, Meaning}
 use Rattle.stores.specs.Outcomes.{Answer}
 use Rattle.stores.proofs.Sequences.{one_call, lists_joined, list_ended}
-use Rattle.formats.specs.Fills.{fill_writes, fill_calls}
+use Rattle.formats.specs.Fills.{fill_writes, fill_calls, Filling, Filled}
+
+-- the n blocks from the first on read these bytes, and are not settled yet
+pub record Unsettled (first n : ℕ) (bytes : List ℕ) (m k : Meaning) : Type 0 where
+  pub filled : Filled first n bytes m k
+  pub stands : (b : ℕ) (c : Content) → b < m.size → k.stands b c → m.stands b c ⊎ Filling first n bytes b c
 
 module _ {S : Type 0} (does : S → Call → Response S → Type 0) (s u t : S) (first : ℕ) (bytes : List ℕ) where
   pub no_writes : InOrder does s (fill_writes first 0 bytes) (Ok tt) s

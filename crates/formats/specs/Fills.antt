@@ -27,11 +27,7 @@ pub record Filled (first n : ℕ) (bytes : List ℕ) (m k : Meaning) : Type 0 wh
   pub above : (b : ℕ) → b < m.size → first + n ≤ b → k.reads b ≡ m.reads b
   pub lasts : Lasting m k
 
--- and they are not settled yet
-pub record Unsettled (first n : ℕ) (bytes : List ℕ) (m k : Meaning) : Type 0 where
-  pub filled : Filled first n bytes m k
-  pub stands : (b : ℕ) (c : Content) → b < m.size → k.stands b c → m.stands b c ⊎ Filling first n bytes b c
-
+-- accepted, they have the bytes, and all is settled; refused, the supply failed in it
 abbrev pub FillOutcome : Layer → ℕ → ℕ → List ℕ → Meaning → Meaning → Answer → Type 0
 FillOutcome source first n bytes m k (Ok done) = Filled first n bytes m k × Settled k
 FillOutcome source first n bytes m k (Err e) = Failed source m k (Filling first n bytes) e

@@ -49,6 +49,7 @@ FormatFailed source m n h e =
     ⊎ (Failed source (zeroed 1 m) n (Filling 1 (sample_blocks h.size) zeros) e
     ⊎ Failed source (zeroed (1 + sample_blocks h.size) m) n (Written 0 (fields_bytes h)) e)
 
+-- of a store with enough blocks: accepted, or the supply failed in it
 abbrev pub FormatServed : Layer → Meaning → Meaning → Fields → Answer → Type 0
 FormatServed source m n h (Ok done) = Formatted m n h
 FormatServed source m n h (Err e) = FormatFailed source m n h e

@@ -1,13 +1,13 @@
 -- What a write to one block of an image leaves of each block. Assumes nothing.
-use Rattle.std.specs.Prelude.{◌≡◌, ℕ, ◌+◌, ◌-◌, ◌*◌, ◌<◌, ◌≤◌, Bool, true, List, ◌++◌, length, take, ◌≢◌, refl}
+use Rattle.std.specs.Prelude.{◌≡◌, ℕ, ◌*◌, ◌<◌, ◌≤◌, Bool, true, List, length, ◌≢◌, refl}
 use Rattle.std.proofs.Common.{sym, ◌∙◌, ap, inl, inr, ⊎_elim, arith}
-use borrow.Rule.Slice.PartMut.{put_mid, Post-is}
+use borrow.Rule.Slice.PartMut.{put_mid}
 use Rattle.std.proofs.lemmas.List.{length-take, length-drop}
 use Rattle.std.proofs.lemmas.Bool.{cases_eq}
 use Rattle.stores.specs.Meanings.{whole, Lawful}
 use Rattle.stores.specs.Outcomes.{Wrote}
 use Rattle.stores.proofs.Places.{length_put, put_here, put_other}
-use Rattle.images.specs.Images.{block, blocks_in, splice, image_meaning}
+use Rattle.images.specs.Images.{block, blocks_in, image_meaning}
 
 -- a block in the memory has 504 bytes
 pub length_block : (xs : List ℕ) (b n : ℕ) → b < n → 504 * n ≤ length xs → length (block xs b) ≡ 504
@@ -44,8 +44,3 @@ image_lawful on xs =
       stand_long = long;
       read_long = λ b bs h e. long b bs h (sym e);
     }
-
--- the memory after a copy into a block's place
-pub copied_is : (xs zs ys ws : List ℕ) (b : ℕ) → zs ≡ xs → ws ≡ ys → put_mid (504 * b) (504 * b + 504 - 504 * b) zs ws ≡ splice xs b ys
-copied_is xs zs ys ws b e f =
-    rw (e, f) (ap (λ (l : List ℕ). take (504 * b) xs ++ (ys ++ l)) (Post-is (504 * b) (504 * b + 504) xs (omega arith)))

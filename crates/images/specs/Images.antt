@@ -41,6 +41,7 @@ pub record View : Type 0 where
   pub bytes : List ℕ
   pub on : Bool
 
+-- an image as its view
 abbrev pub view_of : Image → View
 view_of s = record { bytes = vec_items s.bytes; on = s.on }
 
@@ -58,6 +59,10 @@ image_response v (reads b before) = unless (admitted v b (length before)) before
 image_response v (writes b bytes) = unless (admitted v b (length bytes)) [] v (response (Ok tt) (record { bytes = splice v.bytes b bytes; on = v.on }))
 image_response v flushes = unless (powered Device v.on) [] v (response (Ok tt) v)
 image_response v restarts = response (Ok tt) (record { bytes = v.bytes; on = true })
+
+-- what it does: of each call just what it says
+abbrev pub image_does : View → Call → Response View → Type 0
+image_does v c r = r ≡ image_response v c
 
 -- an image of this memory is off
 pub record Made (bytes : Vec ℕ) (r : Image) : Type 0 where

@@ -1,3 +1,4 @@
 pub mod Expecting
 pub mod Last
 pub mod Readings
+pub mod Printings

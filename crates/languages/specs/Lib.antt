@@ -1,3 +1,4 @@
 pub mod Texts
 pub mod Expecting
 pub mod Scripts
+pub mod Transcripts

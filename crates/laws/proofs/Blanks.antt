@@ -14,11 +14,11 @@ use Rattle.layouts.specs.Slots.{slot_at}
 use Rattle.layouts.specs.declared.entries.Entry.{Entry}
 use Rattle.formats.specs.Formats.{Formatted, zeros}
 use Rattle.samples.specs.Memories.{new_head, blank_memory}
-use Rattle.recovery.specs.Frames.{Frame, InLimits}
-use Rattle.recovery.specs.Opens.{Open}
-use Rattle.recovery.specs.Stages.{Fit, Counting, Just}
-use Rattle.recovery.specs.Tellings.{sampled, Tells}
-use Rattle.recovery.proofs.Telling.{newest_none}
+use Rattle.recovery.proofs.Frames.{Frame, InLimits}
+use Rattle.recovery.proofs.Opens.{Open}
+use Rattle.recovery.proofs.Standings.{Fit, Counting, Just}
+use Rattle.recovery.proofs.Tellings.{sampled, Tells}
+use Rattle.recovery.proofs.TellingLaws.{newest_none}
 
 none_sampled : (f : Frame) (s : ℕ) → sampled f [] s ≡ replicate 12 0
 unfolding sampled newest
@@ -98,7 +98,7 @@ module _ (m n : Meaning) (code size log_blocks seed : ℕ) (coded : 0 < code) (s
     log = λ _. none;
     limits = limits_of code seed size log_blocks 0 coded seeded shape;
     rest = record {
-      stage = record {
+      standing = record {
         on = done.on;
         room = rw done.size room;
         stands = λ b bs l st. let k : b < m.size = rw (← done.size) l in fits 0 (omega arith) b bs k (sym (done.settled.only b (whole bs) l st));

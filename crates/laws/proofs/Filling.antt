@@ -11,7 +11,7 @@ use Rattle.stores.specs.Meanings.{Meaning}
 use Rattle.cards.specs.Memories.{Memory}
 use Rattle.cards.specs.Verdicts.{and_then, check}
 use Rattle.workings.specs.Inserts.{next_slot, insert_test}
-use Rattle.recovery.specs.Opens.{Open}
+use Rattle.recovery.proofs.Opens.{Open}
 use Rattle.ledgers.specs.Candidates.{candidates}
 
 candidates_more : (seed size since n : ℕ) → candidates seed size since (suc n) ≡ candidates seed size since n + cond (is_some (slot_of seed size (since + suc n))) 1 0

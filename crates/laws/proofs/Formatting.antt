@@ -12,11 +12,11 @@ use Rattle.samples.specs.Memories.{new_head, blank_memory}
 use Rattle.samplers.specs.Views.{View}
 use Rattle.samplers.specs.Calls.{format_test, Served, FormatsBy}
 use Rattle.samplers.proofs.Formats.{shape_is}
-use Rattle.laws.specs.Setups.{Setup, LawfulSetup, meant}
-use Rattle.laws.specs.Pasts.{formatted}
+use Rattle.laws.specs.Setups.{Setup, meant}
+use Rattle.laws.specs.Pasts.{just_formatted}
 use Rattle.laws.specs.Laws.{SupplyFailed, FormatWent, FormatLaw}
 use Rattle.ledgers.specs.Ledgers.{opened}
-use Rattle.laws.proofs.Given.{Given}
+use Rattle.laws.proofs.Given.{Given, LawfulSetup}
 use Rattle.laws.proofs.Kept.{Kept, opens}
 
 room_of : (b : Bool) (e : Fault) → check b e ≡ Ok tt → b ≡ true
@@ -44,7 +44,7 @@ module _ {S State K : Type 0} (x : Setup S State K) (law : LawfulSetup x) where
 
   -- an accepted format leaves an open sampler of no records
   pub format_kept : Given x → (size log_blocks seed : ℕ) (v w : View S) → FormatWent x size log_blocks seed v w (Ok tt)
-      → Kept x (new_head x.code size log_blocks seed) formatted w
+      → Kept x (new_head x.code size log_blocks seed) just_formatted w
   format_kept g size log_blocks seed v w went =
       let h = new_head x.code size log_blocks seed in
       let test = served_by size log_blocks seed v w (Ok tt) _ refl went.outcome in

@@ -1,9 +1,9 @@
 -- What the proof of the law stands on: what each call makes of an open sampler. Assumes nothing.
-use Rattle.std.proofs.Common.{◌≡◌, ℕ, ◌++◌, ◌^◌, ◌<◌, ◌≤◌, ◌⊎◌, List, [], ◌∷◌, length, take, slice_get, Some, None, Option, Ok, Err}
+use Rattle.std.proofs.Common.{◌≡◌, ℕ, ◌++◌, ◌^◌, ◌<◌, ◌≤◌, ◌⊎◌, true, List, [], ◌∷◌, length, take, slice_get, Some, None, Option, Ok, Err}
 use Rattle.faults.specs.declared.faults.Fault.{Fault}
 use Rattle.records.specs.Bytes.{Twelve}
 use Rattle.stores.specs.Calls.{Call}
-use Rattle.stores.specs.Meanings.{Meaning, Sound}
+use Rattle.stores.specs.Meanings.{Meaning, Lawful, Sound}
 use Rattle.stores.specs.Outcomes.{Answer}
 use Rattle.layouts.specs.Shapes.{shape_of, blocks}
 use Rattle.cards.specs.Memories.{Memory}
@@ -14,9 +14,9 @@ use Rattle.traces.specs.Traces.{Trace}
 use Rattle.workings.specs.Inserts.{next_slot, insert_test, inserted, insert_calls}
 use Rattle.workings.specs.Commits.{commit_calls, all_committed}
 use Rattle.workings.specs.Refreshes.{refresh_calls, refreshed}
-use Rattle.recovery.specs.Frames.{Frame, frame, frame_blocks}
-use Rattle.recovery.specs.Recoveries.{Safe, Lost, Goes}
-use Rattle.recovery.specs.Opens.{Open}
+use Rattle.recovery.proofs.Frames.{Frame, frame, frame_blocks}
+use Rattle.recovery.proofs.Recoveries.{Safe, Lost, Goes}
+use Rattle.recovery.proofs.Opens.{Open}
 use Rattle.samples.specs.Memories.{Arrays}
 use Rattle.laws.specs.Setups.{Setup, meant}
 
@@ -31,6 +31,16 @@ pub record Remounted (f : Frame) (m n : Meaning) (t : Memory) (settled waiting :
   pub opens : Open f.base n t records (length records)
   pub same : frame f.base t ≡ f
   pub goes : Goes m n
+
+module _ {S State K : Type 0} where
+  -- what holds of every steady store and of every kind
+  pub record LawfulSetup (x : Setup S State K) : Type 0 where
+    pub steady : x.steady ≡ true
+    pub stores : (s : S) → Lawful 504 65536 (meant x s)
+    pub coded : (0 < x.code) × (x.code < 256)
+    pub twelve : (k : K) → Twelve (x.bytes k)
+    pub right : (k : K) → x.wrong (x.bytes k) ≡ None
+    pub own_bytes : (k l : K) → x.bytes k ≡ x.bytes l → k ≡ l
 
 module _ {S State K : Type 0} (x : Setup S State K) where
   abbrev pub Made : State → List Call → Answer → State → Type 0

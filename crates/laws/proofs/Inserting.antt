@@ -13,17 +13,17 @@ use Rattle.cards.specs.Memories.{Memory}
 use Rattle.workings.specs.Inserts.{next_slot, insert_test, inserted, insert_calls}
 use Rattle.workings.specs.Worked.{Ends, Tested, Worked, insert_work}
 use Rattle.samplers.specs.Views.{View}
-use Rattle.recovery.specs.Frames.{Frame}
-use Rattle.recovery.specs.Recoveries.{Lost}
+use Rattle.recovery.proofs.Frames.{Frame}
+use Rattle.recovery.proofs.Recoveries.{Lost}
 use Rattle.ledgers.specs.Ledgers.{Ledger, shut, added}
 use Rattle.ledgers.specs.declared.calls.Call.TheVariants.{Insert}
 use Rattle.ledgers.specs.declared.calls.Answer.TheVariants.{Inserted, Refused}
-use Rattle.laws.specs.Setups.{Setup, LawfulSetup, meant}
+use Rattle.laws.specs.Setups.{Setup, meant}
 use Rattle.laws.specs.Stages.{answered, WorkWent}
 use Rattle.laws.specs.declared.stages.Stage.TheVariants.{Waking}
 use Rattle.laws.specs.Pasts.{Past}
 use Rattle.laws.specs.Laws.{AtLimit, NoRoom}
-use Rattle.laws.proofs.Given.{Given, Made}
+use Rattle.laws.proofs.Given.{Given, Made, LawfulSetup}
 use Rattle.laws.proofs.Kept.{SameFrame, framed_same, of, Opened, Holds, Kept, Keeps, opens, shuts, still, keeps}
 use Rattle.laws.proofs.Filling.{enough, insert_refused}
 

@@ -4,7 +4,7 @@ use Rattle.std.proofs.lemmas.Bool.{cases_lt, lt-ltb, le-ltb, true≢false}
 use Rattle.std.proofs.lemmas.List.{length-map}
 use Rattle.std.proofs.lemmas.Option.{get_or_from_slice_get}
 use Rattle.faults.specs.declared.faults.Fault.{Fault}
-use Rattle.sampling.specs.Answers.{slot_answer as sample_answer}
+use Rattle.sampling.specs.Answers.{slot_answer}
 use Rattle.sampling.proofs.SampleLaws.{sample_filled, sample_unfilled}
 use Rattle.sampling.proofs.ViewLaws.{slot_map}
 use Rattle.stores.specs.Meanings.{Meaning, Sound}
@@ -12,11 +12,11 @@ use Rattle.layouts.specs.Heads.{Fields}
 use Rattle.cards.specs.Memories.{Memory}
 use Rattle.samples.specs.Memories.{slot_read}
 use Rattle.samplers.specs.Views.{View}
-use Rattle.samplers.specs.Calls.{slot_answer}
-use Rattle.recovery.specs.Frames.{Frame, frame_blocks}
-use Rattle.recovery.specs.Tellings.{sampled}
-use Rattle.recovery.specs.Recoveries.{Safe, Lost}
-use Rattle.recovery.specs.Opens.{Open}
+use Rattle.samplers.specs.Calls.{sampler_slot_answer}
+use Rattle.recovery.proofs.Frames.{Frame, frame_blocks}
+use Rattle.recovery.proofs.Tellings.{sampled}
+use Rattle.recovery.proofs.Recoveries.{Safe, Lost}
+use Rattle.recovery.proofs.Opens.{Open}
 use Rattle.ledgers.specs.Ledgers.{Ledger, fed}
 use Rattle.ledgers.specs.declared.calls.Call.{Call}
 use Rattle.ledgers.specs.declared.calls.Answer.{Answer}
@@ -47,7 +47,7 @@ framed_same {h} {k} s base = rw (s.kind, s.seed, s.size, s.log_blocks) refl
 
 -- what a row of an open sampler answers
 read_filled : {base n : ℕ} {m : Meaning} {t : Memory} {rs : List (List ℕ)} (i : ℕ) → Open base m t rs n → i < t.head.size → i < length rs
-    → slot_read t i ≡ sample_answer t.head.seed t.head.size rs i
+    → slot_read t i ≡ slot_answer t.head.seed t.head.size rs i
 unfolding sampled
 read_filled {t = t} {rs} i o a c =
     let y = sample_filled t.head.seed t.head.size rs i (omega arith) in
@@ -58,14 +58,14 @@ read_filled {t = t} {rs} i o a c =
     rw (lt-ltb i t.head.size a, lt-ltb i (min t.head.count t.head.size) (omega arith), y.1, row) refl
 
 read_unfilled : {base n : ℕ} {m : Meaning} {t : Memory} {rs : List (List ℕ)} (i : ℕ) → Open base m t rs n → i < t.head.size → length rs ≤ i
-    → slot_read t i ≡ sample_answer t.head.seed t.head.size rs i
+    → slot_read t i ≡ slot_answer t.head.seed t.head.size rs i
 read_unfilled {t = t} {rs} i o a c =
     let y = sample_unfilled t.head.seed t.head.size rs i (omega arith) in
     let n = o.count in
     rw (lt-ltb i t.head.size a, le-ltb i (min t.head.count t.head.size) (omega arith), y) refl
 
 pub read_open : {base n : ℕ} {m : Meaning} {t : Memory} {rs : List (List ℕ)} (i : ℕ) → Open base m t rs n
-    → slot_read t i ≡ sample_answer t.head.seed t.head.size rs i
+    → slot_read t i ≡ slot_answer t.head.seed t.head.size rs i
 read_open {t = t} {rs} i o =
     ⊎_elim
     (λ (a : i < t.head.size). ⊎_elim (read_filled i o a) (read_unfilled i o a) (cases_lt i (length rs)))
@@ -108,8 +108,8 @@ module _ {S State K : Type 0} (x : Setup S State K) (h : Fields) where
   pub sample_of : (b : Ledger K) (v : View S) → Opened b v → Sampled x h b.counted v
   sample_of b v o i =
       let t = o.memory in
-      let whose : sample_answer t.head.seed t.head.size (of b) i ≡ sample_answer h.seed h.size (of b) i = rw (o.same.seed, o.same.size) refl in
-      ap (λ (s : Option Memory). slot_answer s i) o.memory_is ∙ read_open i o.opens ∙ whose ∙ slot_map x.bytes h.seed h.size b.counted i
+      let whose : slot_answer t.head.seed t.head.size (of b) i ≡ slot_answer h.seed h.size (of b) i = rw (o.same.seed, o.same.size) refl in
+      ap (λ (s : Option Memory). sampler_slot_answer s i) o.memory_is ∙ read_open i o.opens ∙ whose ∙ slot_map x.bytes h.seed h.size b.counted i
 
   pub holds_sample : (b : Ledger K) (v : View S) → Holds b v → b.is_open ≡ true → Sampled x h b.counted v
   holds_sample b v k o = sample_of b v (k.opened o)
@@ -123,7 +123,7 @@ module _ {S State K : Type 0} (x : Setup S State K) (h : Fields) where
       let early : b.settled ≤ length b.counted = omega arith in
       record {
         sound = so;
-        room = subst (λ (f : Frame). frame_blocks f ≤ (meant x v.store).size) fr o.opens.rest.stage.room;
+        room = subst (λ (f : Frame). frame_blocks f ≤ (meant x v.store).size) fr o.opens.rest.standing.room;
         opened = λ z. o;
         dark = λ z. absurd (true≢false (sym op ∙ z));
         none = λ z. nw;

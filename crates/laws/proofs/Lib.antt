@@ -13,3 +13,4 @@ pub mod Formatting
 pub mod Standing
 pub mod Runs
 pub mod Soundness
+pub mod Determinacy

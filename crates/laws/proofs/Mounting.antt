@@ -9,17 +9,17 @@ use Rattle.cards.specs.Memories.{Memory}
 use Rattle.mounts.specs.Mounts.{MountOutcome}
 use Rattle.samplers.specs.Views.{View}
 use Rattle.samplers.specs.Calls.{Leaves}
-use Rattle.recovery.specs.Frames.{Frame, frame}
-use Rattle.recovery.specs.Recoveries.{Lost}
-use Rattle.recovery.specs.Opens.{Open}
+use Rattle.recovery.proofs.Frames.{Frame, frame}
+use Rattle.recovery.proofs.Recoveries.{Lost}
+use Rattle.recovery.proofs.Opens.{Open}
 use Rattle.ledgers.specs.Ledgers.{shut, reopened}
 use Rattle.ledgers.specs.declared.calls.Call.TheVariants.{Mount}
 use Rattle.ledgers.specs.declared.calls.Answer.TheVariants.{Mounted, Refused}
-use Rattle.laws.specs.Setups.{Setup, LawfulSetup, meant}
+use Rattle.laws.specs.Setups.{Setup, meant}
 use Rattle.laws.specs.Stages.{answered, MountWent}
 use Rattle.laws.specs.declared.stages.Stage.TheVariants.{Sleeping}
 use Rattle.laws.specs.Pasts.{Past}
-use Rattle.laws.proofs.Given.{Given, AllRight, Remounted}
+use Rattle.laws.proofs.Given.{Given, AllRight, Remounted, LawfulSetup}
 use Rattle.laws.proofs.Kept.{SameFrame, framed, pending, of, Kept, Keeps, opens, shuts, keeps}
 
 -- a count that is the settled or the pending one is the settled or the waiting one

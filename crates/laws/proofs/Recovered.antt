@@ -1,20 +1,21 @@
 -- A card that recovers is lawful: no check of a mount refuses it. Assumes nothing.
-use Rattle.std.proofs.Common.{◌≡◌, ℕ, zero, suc, ◌<◌, ◌≤◌, min, cond, List, length, replicate, Some, None, Ok, Option, unwrap_or, sym, refl, ap, ◌∙◌, arith, ⊎_elim}
+use Rattle.std.proofs.Common.{◌≡◌, ℕ, zero, suc, ◌<◌, ◌≤◌, min, List, length, replicate, Some, None, Ok, Option, unwrap_or, sym, refl, ap, ◌∙◌, arith, ⊎_elim}
 use Rattle.std.proofs.lemmas.Bool.{cases_lt}
 use Rattle.std.proofs.lemmas.Option.{slice_get_within}
-use Rattle.sampling.specs.Samples.{numbered, is_slot}
+use Rattle.sampling.specs.Samples.{numbered}
 use Rattle.sampling.proofs.SampleLaws.{sample_filled, sample_unfilled, sample_holds}
 use Rattle.stores.specs.Meanings.{whole}
 use Rattle.layouts.specs.Heads.{Fields, fields_bytes, head_read}
 use Rattle.layouts.specs.declared.entries.Entry.{Entry}
 use Rattle.layouts.specs.declared.heads.Head.{Head}
 use Rattle.layouts.proofs.HeadLaws.{read_back}
-use Rattle.cards.specs.Cards.{Card, bytes_of, slot_block, card_slot, entry_block, card_entry, entry_slot, logged}
+use Rattle.cards.specs.Cards.{Card, slot_block, card_slot, entry_block, card_entry, newest_logged}
 use Rattle.cards.specs.Lawful.{LawfulCard}
-use Rattle.recovery.specs.Frames.{Frame, fields_of, frame_blocks}
-use Rattle.recovery.specs.Recoveries.{Recovers, whole_card}
-use Rattle.recovery.specs.Tellings.{newest_in, sampled}
-use Rattle.recovery.proofs.Telling.{newest_none, newest_more}
+use Rattle.cards.proofs.Logs.{logged_none, logged_step}
+use Rattle.recovery.proofs.Frames.{Frame, fields_of, frame_blocks}
+use Rattle.recovery.proofs.Recoveries.{Recovers, whole_card}
+use Rattle.recovery.proofs.Tellings.{newest_in, sampled}
+use Rattle.recovery.proofs.TellingLaws.{newest_none, newest_more}
 use Rattle.laws.proofs.Given.{AllRight}
 
 pub from_one : (rs : List (List ℕ)) (k : ℕ) (bs : List ℕ) → numbered rs k ≡ Some bs → 0 < k
@@ -37,10 +38,6 @@ climbs number c up low (suc j) l = let a = climbs number c up low j (omega arith
 no_more_than : (number : ℕ → ℕ) (c n : ℕ) → ((i j : ℕ) → i < j → j < c → number i < number j) → ((j : ℕ) → j < c → 0 < number j) → ((j : ℕ) → j < c → number j ≤ n) → c ≤ n
 no_more_than number zero n up low high = omega arith
 no_more_than number (suc c) n up low high = let a = climbs number (suc c) up low c (omega arith) in let b = high c (omega arith) in omega arith
-
--- a block that is given as bytes
-same_bytes : (card : ℕ → List ℕ) (reads : Card) (b : ℕ) → reads b ≡ whole (card b) → bytes_of (reads b) ≡ card b
-same_bytes card reads b e = ap bytes_of e
 
 without : (o : Option (List ℕ)) (a b : List ℕ) → o ≡ None → unwrap_or o a ≡ b → a ≡ b
 without None a b e h = h
@@ -85,25 +82,14 @@ module _ (f : Frame) (card : ℕ → List ℕ) (rs : List (List ℕ)) (r : Recov
   pub slot_room : (s : ℕ) → s < f.size → slot_block s < store
   slot_room s l = omega arith
 
-  pub entry_is : (j : ℕ) → j < r.entries → card_entry head_is reads j ≡ log_is j
-  entry_is j l = let a = is (entry_block head_is j) (entry_room j l) in rw a refl
-
   pub slot_is : (s : ℕ) → s < f.size → card_slot reads s ≡ card_slot (whole_card card) s
   slot_is s l = let a = is (slot_block s) (slot_room s l) in rw a refl
 
-  logged_none : (s : ℕ) → logged head_is reads s 0 ≡ None
-  unfolding logged
-  logged_none s = refl
-
-  logged_more : (s c : ℕ) → logged head_is reads s (suc c) ≡ cond (is_slot (entry_slot head_is reads c) s) (Some (card_entry head_is reads c).bytes) (logged head_is reads s c)
-  unfolding logged
-  logged_more s c = refl
-
-  pub logged_is : (s c : ℕ) → c ≤ r.entries → logged head_is reads s c ≡ newest_in f log_is s c
-  logged_is s zero l = logged_none s ∙ sym (newest_none f log_is s)
+  pub logged_is : (s c : ℕ) → c ≤ r.entries → newest_logged head_is reads s c ≡ newest_in f log_is s c
+  logged_is s zero l = logged_none head_is reads s ∙ sym (newest_none f log_is s)
   logged_is s (suc c) l =
       let last = is (entry_block head_is c) (entry_room c (omega arith)) in
-      rw (logged_more s c, newest_more f log_is s c, last, logged_is s c (omega arith)) refl
+      rw (logged_step head_is reads s c, newest_more f log_is s c, last, logged_is s c (omega arith)) refl
 
   number_low : (j : ℕ) → j < r.entries → 0 < (log_is j).number
   number_low j l = from_one rs (log_is j).number (log_is j).bytes (r.tells.logged j l).record_is

@@ -13,13 +13,14 @@ use Rattle.layouts.specs.Entries.{entry_at}
 use Rattle.cards.specs.Cards.{bytes_of, card_slot, entry_block, row_of}
 use Rattle.cards.specs.Memories.{Memory, Remembers}
 use Rattle.cards.specs.Verdicts.{mount_of}
+use Rattle.cards.proofs.Entries.{work_next}
 use Rattle.cards.proofs.LawfulCards.{card_law}
 use Rattle.mounts.specs.Mounts.{MountOutcome}
-use Rattle.recovery.specs.Frames.{Frame, frame_blocks}
-use Rattle.recovery.specs.Recoveries.{Recovers, whole_card, May, Safe, Lost, Goes}
-use Rattle.recovery.specs.Stages.{Fit, Counting, Just}
-use Rattle.recovery.specs.Tellings.{sampled}
-use Rattle.recovery.specs.Opens.{Open}
+use Rattle.recovery.proofs.Frames.{Frame, frame_blocks}
+use Rattle.recovery.proofs.Recoveries.{Recovers, whole_card, May, Safe, Lost, Goes}
+use Rattle.recovery.proofs.Standings.{Fit, Counting, Just}
+use Rattle.recovery.proofs.Tellings.{sampled}
+use Rattle.recovery.proofs.Opens.{Open}
 use Rattle.laws.proofs.Given.{AllRight, Remounted}
 use Rattle.samples.specs.Memories.{Arrays}
 use Rattle.laws.proofs.Recovered.{head_is, log_is, slot_is, logged_is, sampled_none, sampled_long, recovers_lawful}
@@ -96,7 +97,7 @@ module _ (f : Frame) (m n : Meaning) (sound : Sound m) (restarted : Restarted m 
     log = log_is f card rs r m.size room n.reads is;
     limits = r.limits;
     rest = record {
-      stage = record {
+      standing = record {
         on = restarted.on;
         room = rw restarted.size room;
         stands = λ b bs l st.
@@ -120,7 +121,7 @@ module _ (f : Frame) (m n : Meaning) (sound : Sound m) (restarted : Restarted m 
     working = λ j l e.
         let fits = r.fits in
         let some : (r.entries % 31 ≡ 0) → ⊥ = λ z. omega arith in
-        let work = rem.block some in
+        let work = work_next h n.reads r.entries t.work rem.block some in
         let block : entry_block h j ≡ entry_block h r.entries = ap (λ (q : ℕ). 1 + (f.size + 41) / 42 + q) e in
         let a = is (entry_block h j) (omega arith) in
         let b = ap n.reads block in

@@ -8,13 +8,13 @@ use Rattle.ledgers.specs.declared.calls.Call.{Call}
 use Rattle.ledgers.specs.declared.calls.Call.TheVariants.{Mount, Wake, Insert, Commit, Refresh, Slot, Close}
 use Rattle.ledgers.specs.declared.calls.Answer.{Answer}
 use Rattle.ledgers.specs.declared.calls.Answer.TheVariants.{OutOfTurn}
-use Rattle.laws.specs.Setups.{Setup, LawfulSetup}
+use Rattle.laws.specs.Setups.{Setup}
 use Rattle.laws.specs.Stages.{view, Went}
 use Rattle.laws.specs.declared.stages.Stage.{Stage}
 use Rattle.laws.specs.declared.stages.Stage.TheVariants.{Sleeping, Waking}
-use Rattle.laws.specs.Pasts.{Past, formatted}
-use Rattle.laws.specs.Laws.{LawfulCall, onward, Run, FormatWent, Law}
-use Rattle.laws.proofs.Given.{Given}
+use Rattle.laws.specs.Pasts.{Past, just_formatted}
+use Rattle.laws.specs.Laws.{LawfulCall, onward, LawfulRun, FormatWent, Law}
+use Rattle.laws.proofs.Given.{Given, LawfulSetup}
 use Rattle.laws.proofs.Standing.{given}
 use Rattle.laws.proofs.Kept.{Kept, Keeps, holds_sample}
 use Rattle.laws.proofs.Settling.{commit_keeps, refresh_keeps}
@@ -57,8 +57,8 @@ module _ {S State K : Type 0} (x : Setup S State K) (h : Fields) where
   Running p t (c ∷ calls) (a ∷ answers) u = (v : Stage S K) × LawfulCall x h p t c a v × Running (onward x p t c a) v calls answers u
   Running p t calls answers u = ⊥
 
-  pub run_of : (p : Past K) (t : Stage S K) (calls : List (Call K)) (answers : List (Answer K)) (u : Stage S K) → Running p t calls answers u → Run x h p t calls answers u
-  unfolding Running Run
+  pub run_of : (p : Past K) (t : Stage S K) (calls : List (Call K)) (answers : List (Answer K)) (u : Stage S K) → Running p t calls answers u → LawfulRun x h p t calls answers u
+  unfolding Running LawfulRun
   run_of p t [] [] u r = r.0
   run_of p t (c ∷ calls) (a ∷ answers) u r = (r.0, r.1, run_of (onward x p t c a) r.0 calls answers u r.2)
   run_of p t [] (a ∷ answers) u r = r
@@ -90,16 +90,16 @@ module _ {S State K : Type 0} (x : Setup S State K) where
   abbrev pub LawSoFar : View S → List (Call K) → List (Answer K) → Stage S K → Type 0
   LawSoFar f calls answers t =
       (size log_blocks seed : ℕ) (v : View S) → FormatWent x size log_blocks seed v f (Ok tt)
-      → Running x (new_head x.code size log_blocks seed) formatted (Sleeping f) calls answers t
+      → Running x (new_head x.code size log_blocks seed) just_formatted (Sleeping f) calls answers t
 
   pub law_begins : LawfulSetup x → (f : View S) → LawSoFar f [] [] (Sleeping f)
   law_begins law f size log_blocks seed v went =
-      running_none x (new_head x.code size log_blocks seed) formatted (Sleeping f) (format_kept x law (given x law) size log_blocks seed v f went)
+      running_none x (new_head x.code size log_blocks seed) just_formatted (Sleeping f) (format_kept x law (given x law) size log_blocks seed v f went)
 
   pub law_more : LawfulSetup x → (f : View S) (calls : List (Call K)) (answers : List (Answer K)) (u : Stage S K) (c : Call K) (a : Answer K) (v : Stage S K)
       → LawSoFar f calls answers u → Went x u c a v → LawSoFar f (calls ++ c ∷ []) (answers ++ a ∷ []) v
   law_more law f calls answers u c a v so_far w size log_blocks seed b went =
-      running_more x (new_head x.code size log_blocks seed) (given x law) law refl formatted (Sleeping f) calls answers u c a v (so_far size log_blocks seed b went) w
+      running_more x (new_head x.code size log_blocks seed) (given x law) law refl just_formatted (Sleeping f) calls answers u c a v (so_far size log_blocks seed b went) w
 
   -- THE LAW STANDS
   pub law_stands : LawfulSetup x → (f : View S) (calls : List (Call K)) (answers : List (Answer K)) (t : Stage S K) → LawSoFar f calls answers t
@@ -107,5 +107,5 @@ module _ {S State K : Type 0} (x : Setup S State K) where
   law_stands law f calls answers t so_far size log_blocks seed v went =
       let h = new_head x.code size log_blocks seed in (
         holds_sample x h opened f (format_kept x law (given x law) size log_blocks seed v f went).holds refl,
-        run_of x h formatted (Sleeping f) calls answers t (so_far size log_blocks seed v went),
+        run_of x h just_formatted (Sleeping f) calls answers t (so_far size log_blocks seed v went),
       )

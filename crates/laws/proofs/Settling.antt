@@ -13,8 +13,8 @@ use Rattle.workings.specs.Commits.{commit_calls, all_committed}
 use Rattle.workings.specs.Refreshes.{refresh_calls, refreshed}
 use Rattle.workings.specs.Worked.{Ends, Worked, commit_work, refresh_work}
 use Rattle.samplers.specs.Views.{View}
-use Rattle.recovery.specs.Frames.{Frame, frame}
-use Rattle.recovery.specs.Recoveries.{Lost}
+use Rattle.recovery.proofs.Frames.{Frame, frame}
+use Rattle.recovery.proofs.Recoveries.{Lost}
 use Rattle.ledgers.specs.Ledgers.{Ledger, shut, all_waiting, all_settled, begun_anew}
 use Rattle.ledgers.specs.declared.calls.Call.TheVariants.{Commit, Refresh}
 use Rattle.ledgers.specs.declared.calls.Answer.TheVariants.{Committed, Refreshed, Refused}

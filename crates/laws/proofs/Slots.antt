@@ -4,22 +4,22 @@ use Rattle.std.proofs.lemmas.Bool.{true≢false, false≢true, ltb-true, ltb-fal
 use Rattle.faults.specs.declared.faults.Fault.{Fault}
 use Rattle.faults.specs.declared.faults.Reason.TheVariants.{Off, EmptySlot, NoSuchSlot}
 use Rattle.records.specs.Reading.{shown_as}
-use Rattle.sampling.specs.Answers.{refusal, slot_answer as sample_answer}
+use Rattle.sampling.specs.Answers.{refusal, slot_answer}
 use Rattle.sampling.specs.Samples.{sample_at}
 use Rattle.sampling.proofs.SampleLaws.{sample_filled}
 use Rattle.layouts.specs.Heads.{Fields}
 use Rattle.cards.specs.Memories.{Memory}
 use Rattle.samplers.specs.Views.{View}
-use Rattle.samplers.specs.Calls.{slot_answer}
+use Rattle.samplers.specs.Calls.{sampler_slot_answer}
 use Rattle.ledgers.specs.Ledgers.{Ledger}
 use Rattle.ledgers.specs.declared.calls.Call.TheVariants.{Slot}
 use Rattle.ledgers.specs.declared.calls.Answer.TheVariants.{Found, Refused}
-use Rattle.laws.specs.Setups.{Setup, LawfulSetup}
+use Rattle.laws.specs.Setups.{Setup}
 use Rattle.laws.specs.Stages.{answered}
 use Rattle.laws.specs.declared.stages.Stage.TheVariants.{Waking}
 use Rattle.laws.specs.Pasts.{Past}
 use Rattle.laws.specs.Laws.{NoSlot, NotFilled}
-use Rattle.laws.proofs.Given.{Given}
+use Rattle.laws.proofs.Given.{Given, LawfulSetup}
 use Rattle.laws.proofs.Kept.{Kept, Keeps, holds_sample, keeps}
 use Rattle.laws.proofs.Inserting.{shut_dark, test_kept}
 
@@ -49,8 +49,8 @@ module _ {S State K : Type 0} (x : Setup S State K) (h : Fields) (g : Given x) (
       (λ (c : i < length b.counted). let y = sample_filled h.seed h.size b.counted i (omega arith) in let z = y.1 in absurd cc) (λ (c : length b.counted ≤ i). c)
       (cases_lt i (length b.counted))
 
-  slot_open : (p : Past K) (i : ℕ) (v w : View S) (r : Result K Fault) → Kept x h p v → p.ledger.is_open ≡ true → shown_as x.bytes r ≡ slot_answer v.sample i → w ≡ v
-      → r ≡ sample_answer h.seed h.size p.ledger.counted i → Keeps x h p (Waking v) (Slot i) (answered Found r) (Waking w)
+  slot_open : (p : Past K) (i : ℕ) (v w : View S) (r : Result K Fault) → Kept x h p v → p.ledger.is_open ≡ true → shown_as x.bytes r ≡ sampler_slot_answer v.sample i → w ≡ v
+      → r ≡ slot_answer h.seed h.size p.ledger.counted i → Keeps x h p (Waking v) (Slot i) (answered Found r) (Waking w)
   slot_open p i v w (Ok k) kept op went same is =
       let b = p.ledger in
       keeps x h p (Waking v) (Slot i) (Found k) (Waking w) (Ok k, w, refl, refl, (went, same)) tt (op, found_by i k _ _ is)
@@ -68,7 +68,7 @@ module _ {S State K : Type 0} (x : Setup S State K) (h : Fields) (g : Given x) (
       (record { lasting = λ s. inr why; empties = tt; always = inl (inr why) }) (rw y.0 after))
       (refused_by i e _ _ is)
 
-  slot_dark : (p : Past K) (i : ℕ) (v w : View S) (r : Result K Fault) → Kept x h p v → p.ledger.is_open ≡ false → shown_as x.bytes r ≡ slot_answer v.sample i → w ≡ v
+  slot_dark : (p : Past K) (i : ℕ) (v w : View S) (r : Result K Fault) → Kept x h p v → p.ledger.is_open ≡ false → shown_as x.bytes r ≡ sampler_slot_answer v.sample i → w ≡ v
       → shown_as x.bytes r ≡ Err (refusal Off 0) → Keeps x h p (Waking v) (Slot i) (answered Found r) (Waking w)
   slot_dark p i v w (Ok k) kept sh went same is = absurd cc
   slot_dark p i v w (Err q) kept sh went same is =
@@ -82,12 +82,12 @@ module _ {S State K : Type 0} (x : Setup S State K) (h : Fields) (g : Given x) (
       })
 
   slot_by_light : (p : Past K) (i : ℕ) (v w : View S) (r : Result K Fault) (lit : Bool) → p.ledger.is_open ≡ lit → Kept x h p v
-      → shown_as x.bytes r ≡ slot_answer v.sample i → w ≡ v → Keeps x h p (Waking v) (Slot i) (answered Found r) (Waking w)
+      → shown_as x.bytes r ≡ sampler_slot_answer v.sample i → w ≡ v → Keeps x h p (Waking v) (Slot i) (answered Found r) (Waking w)
   slot_by_light p i v w r true op kept went same =
       slot_open p i v w r kept op went same (shown_same r _ (went ∙ holds_sample x h p.ledger v kept.holds op i))
   slot_by_light p i v w r false sh kept went same =
-      slot_dark p i v w r kept sh went same (went ∙ ap (λ (s : Option Memory). slot_answer s i) (kept.holds.dark sh))
+      slot_dark p i v w r kept sh went same (went ∙ ap (λ (s : Option Memory). sampler_slot_answer s i) (kept.holds.dark sh))
 
-  pub slot_keeps : (p : Past K) (i : ℕ) (v w : View S) (r : Result K Fault) → Kept x h p v → shown_as x.bytes r ≡ slot_answer v.sample i → w ≡ v
+  pub slot_keeps : (p : Past K) (i : ℕ) (v w : View S) (r : Result K Fault) → Kept x h p v → shown_as x.bytes r ≡ sampler_slot_answer v.sample i → w ≡ v
       → Keeps x h p (Waking v) (Slot i) (answered Found r) (Waking w)
   slot_keeps p i v w r kept went same = slot_by_light p i v w r p.ledger.is_open refl kept went same

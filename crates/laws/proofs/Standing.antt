@@ -7,10 +7,10 @@ use Rattle.recovery.proofs.Safety.{open_safe}
 use Rattle.recovery.proofs.Commits.{commit_law}
 use Rattle.recovery.proofs.Refreshes.{refresh_law}
 use Rattle.recovery.proofs.Inserts.{insert_law}
-use Rattle.laws.specs.Setups.{Setup, LawfulSetup, meant}
+use Rattle.laws.specs.Setups.{Setup, meant}
 use Rattle.laws.proofs.Blanks.{blank_open}
 use Rattle.laws.proofs.Remounts.{mounted, mount_cut}
-use Rattle.laws.proofs.Given.{Made, Given}
+use Rattle.laws.proofs.Given.{Made, Given, LawfulSetup}
 
 module _ {S State K : Type 0} (x : Setup S State K) (law : LawfulSetup x) where
   -- these calls of a store that is steady

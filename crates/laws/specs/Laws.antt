@@ -6,14 +6,14 @@ use Rattle.faults.specs.Refusals.{fault}
 use Rattle.records.specs.Reading.{shown_as}
 use Rattle.sampling.specs.Draws.{slot_of}
 use Rattle.sampling.specs.Samples.{sample_at}
-use Rattle.sampling.specs.Answers.{refusal, slot_answer as sample_answer}
+use Rattle.sampling.specs.Answers.{refusal, slot_answer}
 use Rattle.stores.specs.Meanings.{Sound, Steadily}
 use Rattle.stores.specs.Outcomes as outcomes
 use Rattle.layouts.specs.Heads.{Fields}
 use Rattle.cards.specs.Memories.{Memory}
 use Rattle.samples.specs.Memories.{new_head}
 use Rattle.samplers.specs.Views.{View}
-use Rattle.samplers.specs.Calls.{format_test, Formats, slot_answer}
+use Rattle.samplers.specs.Calls.{format_test, Formats, sampler_slot_answer}
 use Rattle.ledgers.specs.Candidates.{candidates}
 use Rattle.ledgers.specs.Ledgers.{Ledger, fed}
 use Rattle.ledgers.specs.declared.calls.Call.{Call}
@@ -24,7 +24,7 @@ use Rattle.laws.specs.Setups.{Setup, meant}
 use Rattle.laws.specs.Stages.{view, Went}
 use Rattle.laws.specs.declared.stages.Stage.{Stage}
 use Rattle.laws.specs.declared.stages.Stage.TheVariants.{Sleeping}
-use Rattle.laws.specs.Pasts.{Past, formatted, past}
+use Rattle.laws.specs.Pasts.{Past, just_formatted, past}
 
 -- what a refusal says, where the answer is one
 abbrev pub OnRefused : {K : Type 0} → Answer K → (Fault → Type 0) → Type 0
@@ -104,7 +104,7 @@ module _ {S State K : Type 0} (x : Setup S State K) where
 
   -- the sample is, slot by slot, Algorithm R's of these records
   abbrev pub Sampled : Fields → List K → View S → Type 0
-  Sampled h rs v = (i : ℕ) → slot_answer v.sample i ≡ shown_as x.bytes (sample_answer h.seed h.size rs i)
+  Sampled h rs v = (i : ℕ) → sampler_slot_answer v.sample i ≡ shown_as x.bytes (slot_answer h.seed h.size rs i)
 
   -- PART 2 OF THE LAW
   pub record Samples (h : Fields) (b : Ledger K) (c : Call K) (a : Answer K) (w : View S) : Type 0 where
@@ -134,10 +134,10 @@ module _ {S State K : Type 0} (x : Setup S State K) where
   onward p t c a = past (meant x (view t).store).lasts p c a
 
   -- THE LAW OF A RUN: its calls went one after another, each on where the one before ended, and each was lawful
-  unfoldable pub Run : Fields → Past K → Stage S K → List (Call K) → List (Answer K) → Stage S K → Type 0
-  Run h p t [] [] u = u ≡ t
-  Run h p t (c ∷ calls) (a ∷ answers) u = (v : Stage S K) × LawfulCall h p t c a v × Run h (onward p t c a) v calls answers u
-  Run h p t calls answers u = ⊥
+  unfoldable pub LawfulRun : Fields → Past K → Stage S K → List (Call K) → List (Answer K) → Stage S K → Type 0
+  LawfulRun h p t [] [] u = u ≡ t
+  LawfulRun h p t (c ∷ calls) (a ∷ answers) u = (v : Stage S K) × LawfulCall h p t c a v × LawfulRun h (onward p t c a) v calls answers u
+  LawfulRun h p t calls answers u = ⊥
 
   -- a format with these numbers of a sampler over a sound store was answered so, and left w
   pub record FormatWent (size log_blocks seed : ℕ) (v w : View S) (r : outcomes.Answer) : Type 0 where
@@ -157,4 +157,4 @@ module _ {S State K : Type 0} (x : Setup S State K) where
   abbrev pub Law : View S → List (Call K) → List (Answer K) → Stage S K → Type 0
   Law f calls answers t =
       (size log_blocks seed : ℕ) (v : View S) → FormatWent size log_blocks seed v f (Ok tt)
-      → Sampled (new_head x.code size log_blocks seed) [] f × Run (new_head x.code size log_blocks seed) formatted (Sleeping f) calls answers t
+      → Sampled (new_head x.code size log_blocks seed) [] f × LawfulRun (new_head x.code size log_blocks seed) just_formatted (Sleeping f) calls answers t

@@ -14,8 +14,8 @@ pub record Past (K : Type 0) : Type 0 where
 
 module _ {K : Type 0} where
   -- after an accepted format
-  abbrev pub formatted : Past K
-  formatted = record { ledger = opened; fresh = true; sure = false }
+  abbrev pub just_formatted : Past K
+  just_formatted = record { ledger = opened; fresh = true; sure = false }
 
   -- a call out of turn is none that the sampler had
   abbrev pub fresh_after : Bool → Answer K → Bool

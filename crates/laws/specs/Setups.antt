@@ -1,9 +1,8 @@
 -- What a sampler is made of: a store, and a kind of record. Assumes nothing.
-use Rattle.std.specs.Prelude.{◌≡◌, ℕ, ◌<◌, Bool, true, List, None, Option}
+use Rattle.std.specs.Prelude.{ℕ, Bool, List, Option}
 use Rattle.faults.specs.declared.faults.Layer.{Layer}
-use Rattle.records.specs.Bytes.{Twelve}
 use Rattle.stores.specs.Calls.{Call, Response}
-use Rattle.stores.specs.Meanings.{Meaning, Lawful}
+use Rattle.stores.specs.Meanings.{Meaning}
 
 -- what is said of stores S with these states and of records K
 pub record Setup (S State K : Type 0) : Type 1 where
@@ -21,12 +20,3 @@ module _ {S State K : Type 0} where
   -- what a store means
   abbrev pub meant : Setup S State K → S → Meaning
   meant x s = x.meaning (x.state s)
-
-  -- what holds of every steady store and of every kind
-  pub record LawfulSetup (x : Setup S State K) : Type 0 where
-    pub steady : x.steady ≡ true
-    pub stores : (s : S) → Lawful 504 65536 (meant x s)
-    pub coded : (0 < x.code) × (x.code < 256)
-    pub twelve : (k : K) → Twelve (x.bytes k)
-    pub right : (k : K) → x.wrong (x.bytes k) ≡ None
-    pub own_bytes : (k l : K) → x.bytes k ≡ x.bytes l → k ≡ l

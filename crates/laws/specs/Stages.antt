@@ -1,5 +1,5 @@
 -- What it is that a call of a sampler went so. Assumes nothing.
-use Rattle.std.specs.Prelude.{◌≡◌, ℕ, Some, Ok, Err, Result, length}
+use Rattle.std.specs.Prelude.{◌≡◌, ℕ, Some, Ok, Err, Result}
 use Rattle.faults.specs.declared.faults.Fault.{Fault}
 use Rattle.records.specs.Reading.{shown_as}
 use Rattle.stores.specs.Meanings.{Steadily}
@@ -8,7 +8,7 @@ use Rattle.mounts.specs.Mounts.{MountOutcome, MountCalls}
 use Rattle.workings.specs.Worked.{Work, Worked, insert_work, commit_work, refresh_work}
 use Rattle.samples.specs.Memories.{Arrays}
 use Rattle.samplers.specs.Views.{View}
-use Rattle.samplers.specs.Calls.{Leaves, knows_only, slot_answer}
+use Rattle.samplers.specs.Calls.{Leaves, knows_only, sampler_slot_answer}
 use Rattle.ledgers.specs.declared.calls.Call.{Call}
 use Rattle.ledgers.specs.declared.calls.Call.TheVariants.{Mount, Wake, Insert, Commit, Refresh, Slot, Close}
 use Rattle.ledgers.specs.declared.calls.Answer.{Answer}
@@ -51,6 +51,6 @@ module _ {S State K : Type 0} (x : Setup S State K) where
   Went (Waking v) (Insert k) a u = Left Inserted Waking (WorkWent (insert_work (x.bytes k)) v) a u
   Went (Waking v) Commit a u = Left Committed Waking (WorkWent commit_work v) a u
   Went (Waking v) Refresh a u = Left Refreshed Waking (WorkWent refresh_work v) a u
-  Went (Waking v) (Slot i) a u = Left Found Waking (λ r w. (shown_as x.bytes r ≡ slot_answer v.sample i) × (w ≡ v)) a u
+  Went (Waking v) (Slot i) a u = Left Found Waking (λ r w. (shown_as x.bytes r ≡ sampler_slot_answer v.sample i) × (w ≡ v)) a u
   Went (Waking v) Close a u = (a ≡ Closed) × (u ≡ Sleeping (knows_only v.store))
   Went t c a u = (a ≡ OutOfTurn) × (u ≡ t)

@@ -4,7 +4,7 @@ use Rattle.std.proofs.lemmas.List.{take_all, length-drop, length-take, drop-drop
 use Rattle.records.specs.Twelves.{four_back}
 use Rattle.layouts.specs.Entries.{entry_bytes, entry_at, entry_bytes_at, with_entry}
 use Rattle.layouts.specs.declared.entries.Entry.{Entry}
-use Rattle.layouts.proofs.Spans.{length_with, span_here, span_other}
+use Rattle.layouts.proofs.Spans.{span_here, span_other}
 
 -- a block's byte at a place of an entry is that of the entry's own bytes
 byte_at : (bs : List ℕ) (at k : ℕ) → k < 16 → get_or bs (at + k) 0 ≡ get_or (take 16 (drop at bs)) k 0
@@ -23,10 +23,7 @@ read_of bs place =
 pub entry_back : (e : Entry) → e.number < 2 ^ 32 → length e.bytes ≡ 12 → entry_at (entry_bytes e) 0 ≡ e
 entry_back e small long = rw (four_back e.number small, take_all 12 e.bytes (omega arith))
 
--- a block in which an entry is put is as long as before, the entry is read at its place, and every other as before
-pub length_with_entry : (bs : List ℕ) (place : ℕ) (e : Entry) → 16 * place + 16 ≤ length bs → length (entry_bytes e) ≡ 16 → length (with_entry bs place e) ≡ length bs
-length_with_entry bs place e fit long = length_with 16 bs (entry_bytes e) place fit long
-
+-- an entry that is put in a block is read at its place, and every other as before
 pub entry_here : (bs : List ℕ) (place : ℕ) (e : Entry) → 16 * place + 16 ≤ length bs → length (entry_bytes e) ≡ 16 → entry_at (entry_bytes e) 0 ≡ e
     → entry_at (with_entry bs place e) place ≡ e
 entry_here bs place e fit long back =

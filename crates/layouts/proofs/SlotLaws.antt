@@ -1,11 +1,7 @@
--- How long a sample block is, and what its slots are, once a record's bytes are put in one. Assumes nothing.
+-- What the slots of a sample block are, once a record's bytes are put in one. Assumes nothing.
 use Rattle.std.proofs.Common.{◌≡◌, ◌≢◌, ℕ, ◌+◌, ◌*◌, ◌≤◌, List, length}
 use Rattle.layouts.specs.Slots.{slot_at, with_slot}
-use Rattle.layouts.proofs.Spans.{length_with, span_here, span_other}
-
--- a block in which a record's bytes are put is as long as before
-pub length_with_slot : (bs new : List ℕ) (place : ℕ) → 12 * place + 12 ≤ length bs → length new ≡ 12 → length (with_slot bs place new) ≡ length bs
-length_with_slot bs new place fit long = length_with 12 bs new place fit long
+use Rattle.layouts.proofs.Spans.{span_here, span_other}
 
 -- these bytes are read in their slot, and every other slot as before
 pub slot_here : (bs new : List ℕ) (place : ℕ) → 12 * place + 12 ≤ length bs → length new ≡ 12 → slot_at (with_slot bs place new) place ≡ new

@@ -18,6 +18,7 @@ pub record Fields : Type 0 where
   pub count : ℕ
   pub entries : ℕ
 
+-- the fields of the head in memory
 abbrev pub head_fields : Head → Fields
 head_fields h = record {
   kind = h.kind;
@@ -36,6 +37,7 @@ front x = 1 ∷ two 18 (x.kind ∷ x.log_blocks ∷ two x.size (eight x.seed (fo
 unfoldable pub fields_bytes : Fields → List ℕ
 fields_bytes x = front x ++ replicate 483 0
 
+-- the bytes of the head in memory
 abbrev pub head_bytes : Head → List ℕ
 head_bytes h = fields_bytes (head_fields h)
 

@@ -56,6 +56,11 @@ module _ {K : Type 0} where
   refused Refresh e b = cond (is_21 e) (shut (all_waiting b)) b
   refused c e b = cond (is_21 e) (shut b) b
 
+  -- an accepted insert: the one call for which a ledger needs memory
+  abbrev pub Adds : Call K → Answer K → Type 0
+  Adds (Insert x) (Inserted slot) = Unit {0}
+  Adds c a = ⊥
+
   -- THE LEDGER AFTER A CALL, by the call and its answer. Nothing else changes it.
   abbrev pub fed : Ledger K → Call K → Answer K → Ledger K
   fed b Mount (Mounted n) = reopened n b

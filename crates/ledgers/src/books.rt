@@ -1,5 +1,5 @@
 ghost use Rattle.std.specs.Prelude.{◌≡◌, vec_items, IfOk, OnErr};
-ghost use Rattle.ledgers.specs.Ledgers.{opened, reopened, all_settled, begun_anew, shut, all_waiting, refused, fed, is_21};
+ghost use Rattle.ledgers.specs.Ledgers.{opened, reopened, all_settled, begun_anew, shut, all_waiting, refused, fed, is_21, Adds};
 
 pub mod measures;
 
@@ -97,10 +97,11 @@ impl<K: Copy + Drop> Ledger<K> {
         }
     }
 
-    // What a call and its answer do to it. A want of memory leaves it as it was.
+    // What a call and its answer do to it. A want of memory leaves it as it was, and only an accepted insert may meet it.
     pub fn feed(&mut self, call: &Call<K>, answer: &Answer<K>) -> Result<(), AllocError>
         ensures done { IfOk result (λ _. self.new ≡ fed self.old call.now answer.now) }
         ensures kept { OnErr result (self.new ≡ self.old) }
+        ensures short { OnErr result (Adds call.now answer.now) }
     {
         match (call, answer) {
             (Call::Mount, Answer::Mounted(count)) => self.reopen(*count),

@@ -1,14 +1,15 @@
--- A mirror over a store that says one thing at most to each call does so too. Assumes nothing.
-use Rattle.std.proofs.Common.{◌≡◌, ℕ, zero, suc, ◌+◌, List, [], ◌∷◌, length, Some, None, Ok, Err, sym, ◌∙◌, ap}
+-- A mirror over a store that says one thing at most to each call does so too, and to reads of one block whatever their
+-- buffers held. Assumes nothing.
+use Rattle.std.proofs.Common.{◌≡◌, ℕ, zero, suc, ◌+◌, List, [], ◌∷◌, length, Some, None, Ok, Err, refl, sym, ◌∙◌, ap}
 use Rattle.faults.specs.declared.faults.Layer.TheVariants.{Mirror as MirrorLayer}
 use Rattle.stores.specs.Admission.{admission, powered}
 use Rattle.stores.specs.Outcomes.{Answer}
 use Rattle.stores.specs.Calls.{Call, Response, reads, writes, flushes, restarts, InOrder, Determined}
 use Rattle.stores.specs.Meanings.{Meaning}
-use Rattle.stores.proofs.Determinacy.{onward_one, in_order_one}
+use Rattle.stores.proofs.Determinacy.{Blind, onward_one, in_order_one}
 use Rattle.mirrors.specs.Mirrors.{half}
 use Rattle.mirrors.specs.Views.{View}
-use Rattle.mirrors.specs.Below.{Copy, copy_of, mending, Probes, UnlessTorn, storing_both, ReadsCopies, Repairs, Mends, Restarts, passed_up, read_up, Past, MirrorDoes, mirror_does}
+use Rattle.mirrors.specs.Below.{Copy, copy_of, mending, Probes, UnlessTorn, storing_both, ReadsCopies, Repairs, Mends, Restarts, passed_up, read_up, OnceAdmitted, MirrorDoes, mirror_does}
 
 module _ {S : Type 0} (does : S → Call → Response S → Type 0) (d : Determined does) where
   probes_one : (b : ℕ) (s : S) (q p : Copy) (t v : S) → Probes does b s q t → Probes does b s p v → (q ≡ p) × (t ≡ v)
@@ -50,7 +51,7 @@ module _ {S : Type 0} (does : S → Call → Response S → Type 0) (d : Determi
       let same = d s restarts w x hw hx in
       onward_one w.answer w.next _ _ r n t v more (rw (← same) at last) (λ done k l. mends_one h h w.next r n t v k l)
 
-  past_one : (a : Answer) (buffer : List ℕ) (s : View S) (w x : Response (View S)) (A B : Type 0) → Past a buffer s w A → Past a buffer s x B → (A → B → w ≡ x) → w ≡ x
+  past_one : (a : Answer) (buffer : List ℕ) (s : View S) (w x : Response (View S)) (A B : Type 0) → OnceAdmitted a buffer s w A → OnceAdmitted a buffer s x B → (A → B → w ≡ x) → w ≡ x
   past_one (Ok done) buffer s w x A B h k f = f h k
   past_one (Err e) buffer s w x A B h k f = h ∙ sym k
 
@@ -84,3 +85,26 @@ module _ {S : Type 0} (does : S → Call → Response S → Type 0) (d : Determi
 
   pub mirror_determined : (meaning : S → Meaning) → Determined (mirror_does meaning does)
   mirror_determined meaning s c w x i j = says_one (half (meaning s.below)) s c w x i j
+
+  -- two reads are answered the same, and leave the same
+  abbrev ReadAlike : Response (View S) → Response (View S) → Type 0
+  ReadAlike w x = (w.answer ≡ x.answer) × (w.next ≡ x.next)
+
+  read_up_blind : (b : ℕ) (p q : List ℕ) (c : Copy) (t : S) → ReadAlike (read_up b p c t) (read_up b q c t)
+  read_up_blind b p q (Ok (Some bytes)) t = (refl, refl)
+  read_up_blind b p q (Ok None) t = (refl, refl)
+  read_up_blind b p q (Err e) t = (refl, refl)
+
+  reading_blind : (h b : ℕ) (p q : List ℕ) (s : View S) (w x : Response (View S)) → Reading h b p s w → Reading h b q s x → ReadAlike w x
+  reading_blind h b p q s w x k l =
+      let same = reads_one b (h + b) s.below k.0 l.0 k.1 l.1 k.2 l.2 in
+      rw (k.3, l.3, same.0, same.1) (read_up_blind b p q l.0 l.1)
+
+  past_blind : (a : Answer) (p q : List ℕ) (s : View S) (w x : Response (View S)) (A B : Type 0) → OnceAdmitted a p s w A → OnceAdmitted a q s x B → (A → B → ReadAlike w x) → ReadAlike w x
+  past_blind (Ok done) p q s w x A B h k f = f h k
+  past_blind (Err e) p q s w x A B h k f = rw (h, k) (refl, refl)
+
+  pub mirror_blind : (meaning : S → Meaning) → Blind (mirror_does meaning does)
+  mirror_blind meaning s b p q w x e i j =
+      let h = half (meaning s.below) in
+      past_blind (admission MirrorLayer h s.on b (length q)) p q s w x (Reading h b p s w) (Reading h b q s x) (rw e at i) j (reading_blind h b p q s w x)

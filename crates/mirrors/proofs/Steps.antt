@@ -5,7 +5,7 @@ use Rattle.faults.specs.declared.faults.Layer.{Layer}
 use Rattle.stores.specs.Meanings.{Content, whole, torn, Meaning, Settled, Same, Written}
 use Rattle.stores.specs.Outcomes.{Answer, Failed}
 use Rattle.stores.proofs.Sameness.{settled_same}
-use Rattle.mirrors.specs.Repairs.{Stored, StoreOutcome, Probed, Twins, Repaired, Mending, RepairOutcome, Mended}
+use Rattle.mirrors.specs.Repairs.{Stored, StoreOutcome, Probed, Twins, Repaired, RepairBrings, RepairOutcome, Mended}
 
 -- These stood in specs/ when the design pass began. The check of `repair`, `probe` and `mend` finds each by itself.
 
@@ -75,11 +75,11 @@ module _ (source : Layer) (m k n : Meaning) (a b : ℕ) (t : Twins m a b) (s : S
 
   pub second_put : (r : Answer) → m.reads a ≡ whole bs → StoreOutcome source k n b bs r → RepairOutcome source m n a b r
   second_put (Ok _) x p = second_stored x p
-  second_put (Err e) x p = cut_same (Mending m a b) b e (λ i c w. record { bytes = bs; at = inl (x, w) }) p
+  second_put (Err e) x p = cut_same (RepairBrings m a b) b e (λ i c w. record { bytes = bs; at = inl (x, w) }) p
 
   pub first_put : (r : Answer) → m.reads a ≡ torn → m.reads b ≡ whole bs → StoreOutcome source k n a bs r → RepairOutcome source m n a b r
   first_put (Ok _) x y p = first_stored x y p
-  first_put (Err e) x y p = cut_same (Mending m a b) a e (λ i c w. record { bytes = bs; at = inr (x, y, w) }) p
+  first_put (Err e) x y p = cut_same (RepairBrings m a b) a e (λ i c w. record { bytes = bs; at = inr (x, y, w) }) p
 
 module _ (source : Layer) (m n : Meaning) (b : ℕ) where
   pub probed_whole : (bs : List ℕ) → Probed source m n b (Ok (Some bs)) → (m.reads b ≡ whole bs) × Same m n

@@ -23,6 +23,7 @@ abbrev pub unless_torn : Reason → Fault → Copy
 unless_torn Torn e = Ok None
 unless_torn other e = Err e
 
+-- what a read's answer and buffer tell of a copy
 abbrev pub copy_of : Answer → List ℕ → Copy
 copy_of (Ok done) bytes = Ok (Some bytes)
 copy_of (Err e) bytes = unless_torn e.reason e
@@ -53,6 +54,7 @@ module _ {S : Type 0} (does : S → Call → Response S → Type 0) where
   UnlessTorn b (Ok (Some bytes)) s q t = (q ≡ Ok (Some bytes)) × (t ≡ s)
   UnlessTorn b (Err e) s q t = (q ≡ Err e) × (t ≡ s)
 
+  -- the first copy is read, and the second where it is torn
   unfoldable pub ReadsCopies : ℕ → ℕ → S → Copy → S → Type 0
   ReadsCopies a b s q t = (p : Copy) × (u : S) × Probes a s p u × UnlessTorn b p u q t
 
@@ -83,20 +85,20 @@ read_up b before (Ok None) t = record { answer = Err (fault Torn MirrorLayer b);
 read_up b before (Err e) t = record { answer = Err e; buffer = before; next = record { below = t; on = false } }
 
 -- the mirror's own refusal changes nothing; else the call is served
-abbrev pub Past : {S : Type 0} → Answer → List ℕ → View S → Response (View S) → Type 0 → Type 0
-Past (Ok done) buffer v w served = served
-Past (Err e) buffer v w served = w ≡ record { answer = Err e; buffer = buffer; next = v }
+abbrev pub OnceAdmitted : {S : Type 0} → Answer → List ℕ → View S → Response (View S) → Type 0 → Type 0
+OnceAdmitted (Ok done) buffer v w served = served
+OnceAdmitted (Err e) buffer v w served = w ≡ record { answer = Err e; buffer = buffer; next = v }
 
 -- what a mirror of `half` blocks says to a call, over a store that does so
 abbrev pub MirrorDoes : {S : Type 0} → (S → Call → Response S → Type 0) → ℕ → View S → Call → Response (View S) → Type 0
 MirrorDoes {S} does half v (reads b before) w =
-    Past (admission MirrorLayer half v.on b (length before)) before v w
+    OnceAdmitted (admission MirrorLayer half v.on b (length before)) before v w
     ((q : Copy) × (t : S) × ReadsCopies does b (half + b) v.below q t × (w ≡ read_up b before q t))
 MirrorDoes {S} does half v (writes b bytes) w =
-    Past (admission MirrorLayer half v.on b (length bytes)) [] v w
+    OnceAdmitted (admission MirrorLayer half v.on b (length bytes)) [] v w
     ((r : Answer) × (t : S) × InOrder does v.below (storing_both b (half + b) bytes) r t × (w ≡ passed_up r t))
 MirrorDoes {S} does half v flushes w =
-    Past (powered MirrorLayer v.on) [] v w
+    OnceAdmitted (powered MirrorLayer v.on) [] v w
     ((r : Answer) × (t : S) × InOrder does v.below (flushes ∷ []) r t × (w ≡ passed_up r t))
 MirrorDoes {S} does half v restarts w = (r : Answer) × (t : S) × Restarts does half v.below r t × (w ≡ passed_up r t)
 

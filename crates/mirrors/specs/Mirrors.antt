@@ -19,6 +19,7 @@ pub record Copies (m : Meaning) (b : ℕ) (c : Content) : Type 0 where
   pub at_second : m.stands (half m + b) second
   pub is : c ≡ either first second
 
+-- a mirror over a store of this meaning: its blocks are half of those below, and what each reads is what its copies read
 abbrev pub mirror_meaning : Bool → Meaning → Meaning
 mirror_meaning on m = record {
   size = half m;

@@ -23,23 +23,24 @@ pub record Stored (m n : Meaning) (a : ℕ) (bytes : List ℕ) : Type 0 where
   pub settled : Settled n
   pub lasts : Lasting m n
 
+-- what such a write comes to: it is settled, or the supply failed and it may stand or not
 abbrev pub StoreOutcome : Layer → Meaning → Meaning → ℕ → List ℕ → Answer → Type 0
 StoreOutcome source m n a bytes (Ok done) = Stored m n a bytes
 StoreOutcome source m n a bytes (Err e) = Failed source m n (Written a bytes) e
 
 -- a block that reads these bytes, or is torn where there are none
-abbrev pub read_of : Option (List ℕ) → Content
-read_of (Some bytes) = whole bytes
-read_of None = torn
+abbrev pub content_of : Option (List ℕ) → Content
+content_of (Some bytes) = whole bytes
+content_of None = torn
 
 -- what a block reads; nothing changed
 abbrev pub Probed : Layer → Meaning → Meaning → ℕ → Result (Option (List ℕ)) Fault → Type 0
-Probed source m n b (Ok found) = (m.reads b ≡ read_of found) × Same m n
+Probed source m n b (Ok found) = (m.reads b ≡ content_of found) × Same m n
 Probed source m n b (Err e) = Failed source m n Nothing e
 
 -- what two copies read, the second where the first is torn; nothing changed
 abbrev pub Both : Layer → Meaning → Meaning → ℕ → ℕ → Result (Option (List ℕ)) Fault → Type 0
-Both source m n a b (Ok found) = (either (m.reads a) (m.reads b) ≡ read_of found) × Same m n
+Both source m n a b (Ok found) = (either (m.reads a) (m.reads b) ≡ content_of found) × Same m n
 Both source m n a b (Err e) = Failed source m n Nothing e
 
 -- the store is on and settled, and has these two blocks.
@@ -61,13 +62,14 @@ pub record Repaired (m n : Meaning) (a b : ℕ) : Type 0 where
   pub lasts : Lasting m n
 
 -- what a repair that is cut may bring about.
-pub record Mending (m : Meaning) (a b i : ℕ) (c : Content) : Type 0 where
+pub record RepairBrings (m : Meaning) (a b i : ℕ) (c : Content) : Type 0 where
   pub bytes : List ℕ
   pub at : ((m.reads a ≡ whole bytes) × Written b bytes i c) ⊎ ((m.reads a ≡ torn) × (m.reads b ≡ whole bytes) × Written a bytes i c)
 
+-- what a repair comes to: the two blocks are alike, or the supply failed in it
 abbrev pub RepairOutcome : Layer → Meaning → Meaning → ℕ → ℕ → Answer → Type 0
 RepairOutcome source m n a b (Ok _) = Repaired m n a b
-RepairOutcome source m n a b (Err e) = Failed source m n (Mending m a b) e
+RepairOutcome source m n a b (Err e) = Failed source m n (RepairBrings m a b) e
 
 -- the copies below i are alike, and each block reads in both as before.
 pub record Mended (i : ℕ) (m n : Meaning) : Type 0 where
@@ -86,6 +88,7 @@ pub record MendFailed (source : Layer) (m n : Meaning) (e : Fault) : Type 0 wher
   pub off : n.on ≡ false
   pub stands : (b : ℕ) (c : Content) → b < half m → Copies n b c → c ≡ either (m.reads b) (m.reads (half m + b))
 
+-- what the repair of all blocks comes to
 abbrev pub MendOutcome : Layer → Meaning → Meaning → Answer → Type 0
 MendOutcome source m n (Ok _) = Mended (half m) m n
 MendOutcome source m n (Err e) = MendFailed source m n e

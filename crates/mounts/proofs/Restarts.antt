@@ -1,5 +1,5 @@
 -- A mount: a restart, and then the card is read. Assumes nothing.
-use Rattle.std.proofs.Common.{◌≡◌, ℕ, ◌<◌, List, Bool, true, false, Option, Ok, Err, Result, refl, sym, ◌∙◌, inl, inr, ⊎_elim}
+use Rattle.std.proofs.Common.{ℕ, ◌<◌, List, Option, Ok, Err, Result, refl, sym, ◌∙◌, inl, inr, ⊎_elim}
 use Rattle.faults.specs.declared.faults.Fault.{Fault}
 use Rattle.faults.specs.declared.faults.Layer.{Layer}
 use Rattle.stores.specs.Calls.{Call, Response, restarts, response}
@@ -7,13 +7,10 @@ use Rattle.stores.specs.Meanings.{Meaning, Sound, Same, Nothing}
 use Rattle.stores.specs.Outcomes.{Failed, Restarted}
 use Rattle.stores.proofs.Sameness.{settled_same}
 use Rattle.stores.proofs.Soundness.{sound_cut, sound_restart}
+use Rattle.stores.proofs.Supplies.{not_lasting}
 use Rattle.cards.specs.Memories.{Memory}
 use Rattle.mounts.specs.Mounts.{MountOutcome, CardCalls, MountCalls}
 use Rattle.mounts.specs.Parts.{Shows, CardOutcome}
-
-not_lasting : (a b : Bool) → (a ≡ true → b ≡ true) → b ≡ false → a ≡ false
-not_lasting false b f e = refl
-not_lasting true b f e = sym (f refl) ∙ e
 
 module _ (m k n : Meaning) (restarted : Restarted m k) where
   restarted_still : Same k n → Restarted m n

@@ -1,5 +1,5 @@
 -- Which blocks a mount reads, in which order. Assumes nothing.
-use Rattle.std.specs.Prelude.{◌≡◌, ℕ, zero, suc, ◌%◌, Bool, cond, List, [], ◌∷◌, ◌++◌, map, Ok, Err, Option, Result, ◌==◌, MatchResult, ⊤}
+use Rattle.std.specs.Prelude.{◌≡◌, ℕ, zero, suc, ◌%◌, Bool, cond, List, [], ◌∷◌, ◌++◌, map, length, All, Ok, Err, Option, Result, ◌==◌, MatchResult, ⊤}
 use Rattle.faults.specs.declared.faults.Fault.{Fault}
 use Rattle.faults.specs.declared.faults.Layer.{Layer}
 use Rattle.stores.specs.Calls.{Call, Response, reads, InOrder}
@@ -22,10 +22,11 @@ unfoldable pub each_reads : (ℕ → Answer) → (ℕ → List ℕ) → ℕ → 
 each_reads checks blocks zero = []
 each_reads checks blocks (suc i) = each_reads checks blocks i ++ if_passed (each checks i) (λ _. blocks i)
 
--- a log block is read at the first of its 31 entries, and a sample block at the first of its 42 slots
+-- a log block is read at the first of its 31 entries
 abbrev pub entry_reads : Fields → ℕ → List ℕ
 entry_reads h i = fetched (i % 31 == 0) (entry_block h i)
 
+-- and a sample block at the first of its 42 slots
 abbrev pub slot_reads : ℕ → List ℕ
 slot_reads s = fetched (s % 42 == 0) (slot_block s)
 
@@ -46,6 +47,10 @@ mount_reads own store code wrong card =
 abbrev pub reading : ℕ × List ℕ → Call
 reading x = reads x.0 x.1
 
+-- the buffer that a block is read into is as long as a block
+abbrev pub OfBlockLength : ℕ × List ℕ → Type 0
+OfBlockLength x = length x.1 ≡ 504
+
 -- a fault that is answered is the check's
 abbrev pub FaultOf : {A X : Type 0} → Result A Fault → Result X Fault → Type 0
 FaultOf check (Ok x) = ⊤
@@ -55,11 +60,12 @@ FaultOf check (Err e) = check ≡ Err e
 abbrev pub no_check : Answer
 no_check = Ok tt
 
--- JUST THESE BLOCKS ARE READ, in order, into buffers of the reader's own, up to the first read that the store refuses. That
+-- JUST THESE BLOCKS ARE READ, in order, into buffers of a block's length, up to the first read that the store refuses. That
 -- fault is the answer then; else a fault that is answered is the check's.
-pub record Checked {S A X : Type 0} (does : S → Call → Response S → Type 0) (s : S) (blocks : List ℕ) (check : Result A Fault) (answer : Result X Fault) (t : S) : Type 0 where
+pub record ReadsFor {S A X : Type 0} (does : S → Call → Response S → Type 0) (s : S) (blocks : List ℕ) (check : Result A Fault) (answer : Result X Fault) (t : S) : Type 0 where
   pub calls : List (ℕ × List ℕ)
   pub these : map (λ x. x.0) calls ≡ blocks
+  pub fit : All OfBlockLength calls
   pub last : Answer
   pub made : InOrder does s (map reading calls) last t
   pub fault : MatchResult last (λ done. FaultOf check answer) (λ e. answer ≡ Err e)

@@ -1,6 +1,6 @@
 ghost use Rattle.std.specs.Prelude.{◌≡◌, ◌<◌, true, IfSome, slice_set};
 ghost use Rattle.layouts.specs.Heads.{head_fields};
-ghost use Rattle.cards.specs.Progress.{right_slot};
+ghost use Rattle.cards.specs.Verdicts.{right_slot};
 ghost use Rattle.mounts.specs.Parts.{EntryOutcome, LogOutcome, EntryCalls, LogCalls};
 
 use crate::blocks::fetch;

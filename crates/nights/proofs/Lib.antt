@@ -1,2 +1,3 @@
 pub mod Soundness
 pub mod Nights
+pub mod Determinacy

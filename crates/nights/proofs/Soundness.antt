@@ -9,15 +9,15 @@ use Rattle.laws.specs.declared.stages.Stage.{Stage}
 use Rattle.laws.specs.Setups.{Setup, meant}
 use Rattle.laws.specs.Stages.{view}
 use Rattle.laws.specs.Pasts.{Past}
-use Rattle.laws.specs.Laws.{onward, Run}
+use Rattle.laws.specs.Laws.{onward, LawfulRun}
 use Rattle.laws.proofs.Soundness.{went_sound}
 use Rattle.script.specs.Plans.{NightPlan}
 use Rattle.nights.specs.Nights.{NightWent}
 
 module _ {S State K : Type 0} (x : Setup S State K) (steady : x.steady ≡ true) where
-  run_sound : (h : Fields) (p : Past K) (t : Stage S K) (calls : List (Call K)) (answers : List (Answer K)) (u : Stage S K) → Run x h p t calls answers u
+  run_sound : (h : Fields) (p : Past K) (t : Stage S K) (calls : List (Call K)) (answers : List (Answer K)) (u : Stage S K) → LawfulRun x h p t calls answers u
       → Sound (meant x (view t).store) → Sound (meant x (view u).store)
-  unfolding Run
+  unfolding LawfulRun
   run_sound h p t [] [] u run so = subst (λ (w : Stage S K). Sound (meant x (view w).store)) (sym run) so
   run_sound h p t (c ∷ calls) (a ∷ answers) u (v, call, more) so =
       run_sound h (onward x p t c a) v calls answers u more (went_sound x t c a v call.went steady so)

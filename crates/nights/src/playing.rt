@@ -4,7 +4,7 @@ ghost use Rattle.laws.specs.Stages.{view};
 ghost use Rattle.runs.specs.Runs.{setup};
 ghost use Rattle.script.specs.Plans.{night_plan};
 ghost use Rattle.nights.specs.Nights.{AfterFormat, NightWent, NightsWent};
-ghost use Rattle.script.specs.Told.{told, heard};
+ghost use Rattle.script.specs.Outcomes.{outcome_of, outcomes_of};
 
 use faults::Fault;
 use laws::Stage;
@@ -20,14 +20,14 @@ use stores::SteadyStore;
 #[derive(Drop)]
 struct Morning<S: SteadyStore, K: RecordKind> {
     asleep: Asleep<S, K>,
-    answers: Result<Vec<Answer<K>>, Fault>,
+    outcome: Result<Vec<Answer<K>>, Fault>,
 }
 
-// The store that nights left, and what each of them was answered.
+// The store that nights left, and what each of them came to.
 #[derive(Drop)]
-pub(crate) struct Left<S, K> {
+pub(crate) struct Remains<S, K> {
     pub store: S,
-    pub answers: Vec<Result<Vec<Answer<K>>, Fault>>,
+    pub outcomes: Vec<Result<Vec<Answer<K>>, Fault>>,
 }
 
 // The sampler, put to sleep if it is awake.
@@ -46,7 +46,7 @@ fn after_format<S: SteadyStore + Drop, K: RecordKind>(
     asleep: Asleep<S, K>,
     night: &Night<K>,
 ) -> Result<Morning<S, K>, AllocError>
-    ensures { IfOk result (λ m. AfterFormat (setup S.Store.state S.Store.meaning S.Store.does S.Store.own S.Store.source S.Store.steady K.CODE K.bytes K.wrong) asleep (night_plan night.now) (told m.answers) m.asleep.store) }
+    ensures { IfOk result (λ m. AfterFormat (setup S.Store.state S.Store.meaning S.Store.does S.Store.own S.Store.source S.Store.steady K.CODE K.bytes K.wrong) asleep (night_plan night.now) (outcome_of m.outcome) m.asleep.store) }
 {
     let calls = night.calls(heap)?;
     let Ok(Run { stage, answers }) = work(heap, asleep, &calls) else {
@@ -54,7 +54,7 @@ fn after_format<S: SteadyStore + Drop, K: RecordKind>(
     };
     Ok(Morning {
         asleep: to_sleep(stage),
-        answers: Ok(answers),
+        outcome: Ok(answers),
     })
 }
 
@@ -64,13 +64,13 @@ fn play_night<S: SteadyStore + Drop, K: RecordKind>(
     mut asleep: Asleep<S, K>,
     night: &Night<K>,
 ) -> Result<Morning<S, K>, AllocError>
-    ensures { IfOk result (λ m. Sound (S.Store.meaning (S.Store.state asleep.store)) → NightWent (setup S.Store.state S.Store.meaning S.Store.does S.Store.own S.Store.source S.Store.steady K.CODE K.bytes K.wrong) asleep.store (night_plan night.now) (told m.answers) m.asleep.store) }
+    ensures { IfOk result (λ m. Sound (S.Store.meaning (S.Store.state asleep.store)) → NightWent (setup S.Store.state S.Store.meaning S.Store.does S.Store.own S.Store.source S.Store.steady K.CODE K.bytes K.wrong) asleep.store (night_plan night.now) (outcome_of m.outcome) m.asleep.store) }
 {
     match asleep.format(night.size, night.log_blocks, night.seed) {
         Ok(()) => after_format(heap, asleep, night),
         Err(fault) => Ok(Morning {
             asleep,
-            answers: Err(fault),
+            outcome: Err(fault),
         }),
     }
 }
@@ -80,18 +80,18 @@ pub(crate) fn on_store<S: SteadyStore + Drop, K: RecordKind>(
     heap: Global,
     store: S,
     nights: &[Night<K>],
-) -> Result<Left<S, K>, AllocError>
-    ensures { IfOk result (λ l. Sound (S.Store.meaning (S.Store.state store)) → NightsWent (setup S.Store.state S.Store.meaning S.Store.does S.Store.own S.Store.source S.Store.steady K.CODE K.bytes K.wrong) store (map night_plan nights.now) (heard l.answers) l.store) }
+) -> Result<Remains<S, K>, AllocError>
+    ensures { IfOk result (λ l. Sound (S.Store.meaning (S.Store.state store)) → NightsWent (setup S.Store.state S.Store.meaning S.Store.does S.Store.own S.Store.source S.Store.steady K.CODE K.bytes K.wrong) store (map night_plan nights.now) (outcomes_of l.outcomes) l.store) }
 {
     let mut asleep = Asleep::new(store);
-    let mut answers = Vec::with_capacity(heap, nights.len())?;
+    let mut outcomes = Vec::with_capacity(heap, nights.len())?;
     for night in nights {
         let morning = play_night(heap, asleep, night)?;
         asleep = morning.asleep;
-        answers.push_reserved(morning.answers);
+        outcomes.push_reserved(morning.outcome);
     }
-    Ok(Left {
+    Ok(Remains {
         store: asleep.into_store(),
-        answers,
+        outcomes,
     })
 }

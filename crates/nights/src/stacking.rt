@@ -1,10 +1,10 @@
 ghost use Rattle.std.specs.Prelude.{◌≡◌, IfOk, map};
 ghost use Rattle.zeros.specs.Zeros.{zero_image, zero_bench, off_over};
 ghost use Rattle.script.specs.Plans.{night_plan};
-ghost use Rattle.script.specs.Told.{heard};
-ghost use Rattle.nights.specs.Stacks.{NightsFrom, on_image, on_mirrored_image, on_mirrored_bench, PlayedOn};
+ghost use Rattle.script.specs.Outcomes.{outcomes_of};
+ghost use Rattle.nights.specs.Stacks.{NightsFrom, on_image, on_mirrored_image, on_mirrored_bench, NightsOn};
 
-use crate::playing::{Left, on_store};
+use crate::playing::{Remains, on_store};
 use faults::Fault;
 use ledgers::Answer;
 use records::RecordKind;
@@ -12,10 +12,10 @@ use script::{Night, Stack, Steady};
 use std::alloc::{AllocError, Global};
 use zeros::{mirrored_bench, mirrored_image, zero_image};
 
-// What nights were answered, each call of each or why its format was refused, and the device's memory after them.
+// What each of the nights came to, and the device's memory after them.
 #[derive(Drop)]
 pub struct Played<K> {
-    pub answers: Vec<Result<Vec<Answer<K>>, Fault>>,
+    pub outcomes: Vec<Result<Vec<Answer<K>>, Fault>>,
     pub memory: Vec<u8>,
 }
 
@@ -25,11 +25,11 @@ fn image<K: RecordKind>(
     blocks: u32,
     nights: &[Night<K>],
 ) -> Result<Played<K>, AllocError>
-    ensures { IfOk result (λ p. NightsFrom (on_image K.CODE K.bytes K.wrong) (zero_image blocks) (λ v. v.bytes) (map night_plan nights.now) (heard p.answers) p.memory.items) }
+    ensures { IfOk result (λ p. NightsFrom (on_image K.CODE K.bytes K.wrong) (zero_image blocks) (λ v. v.bytes) (map night_plan nights.now) (outcomes_of p.outcomes) p.memory.items) }
 {
-    let Left { store, answers } = on_store(heap, zero_image(heap, blocks)?, nights)?;
+    let Remains { store, outcomes } = on_store(heap, zero_image(heap, blocks)?, nights)?;
     Ok(Played {
-        answers,
+        outcomes,
         memory: store.into_bytes(),
     })
 }
@@ -40,11 +40,11 @@ fn mirror_image<K: RecordKind>(
     blocks: u32,
     nights: &[Night<K>],
 ) -> Result<Played<K>, AllocError>
-    ensures { IfOk result (λ p. NightsFrom (on_mirrored_image K.CODE K.bytes K.wrong) (off_over (zero_image blocks)) (λ v. v.below.bytes) (map night_plan nights.now) (heard p.answers) p.memory.items) }
+    ensures { IfOk result (λ p. NightsFrom (on_mirrored_image K.CODE K.bytes K.wrong) (off_over (zero_image blocks)) (λ v. v.below.bytes) (map night_plan nights.now) (outcomes_of p.outcomes) p.memory.items) }
 {
-    let Left { store, answers } = on_store(heap, mirrored_image(heap, blocks)?, nights)?;
+    let Remains { store, outcomes } = on_store(heap, mirrored_image(heap, blocks)?, nights)?;
     Ok(Played {
-        answers,
+        outcomes,
         memory: store.into_below().into_bytes(),
     })
 }
@@ -57,17 +57,17 @@ fn mirror_bench<K: RecordKind>(
     choices: Vec<u8>,
     nights: &[Night<K>],
 ) -> Result<Played<K>, AllocError>
-    ensures { IfOk result (λ p. NightsFrom (on_mirrored_bench K.CODE K.bytes K.wrong) (off_over (zero_bench blocks fuses.items choices.items)) (λ v. v.below.mem) (map night_plan nights.now) (heard p.answers) p.memory.items) }
+    ensures { IfOk result (λ p. NightsFrom (on_mirrored_bench K.CODE K.bytes K.wrong) (off_over (zero_bench blocks fuses.items choices.items)) (λ v. v.below.mem) (map night_plan nights.now) (outcomes_of p.outcomes) p.memory.items) }
 {
     let store = mirrored_bench(heap, blocks, fuses, choices)?;
-    let Left { store, answers } = on_store(heap, store, nights)?;
+    let Remains { store, outcomes } = on_store(heap, store, nights)?;
     Ok(Played {
-        answers,
+        outcomes,
         memory: store.into_below().into_bytes(),
     })
 }
 
-// Builds a stack of zeros, plays these nights on it in order, and hands out what they were answered and what they left.
+// Builds a stack of zeros, plays these nights on it in order, and hands out what they came to and what they left.
 pub fn play<K: RecordKind>(
     heap: Global,
     stack: Stack,
@@ -75,7 +75,7 @@ pub fn play<K: RecordKind>(
     choices: Vec<u8>,
     nights: &[Night<K>],
 ) -> Result<Played<K>, AllocError>
-    ensures { IfOk result (λ p. PlayedOn K.CODE K.bytes K.wrong stack fuses.items choices.items (map night_plan nights.now) (heard p.answers) p.memory.items) }
+    ensures { IfOk result (λ p. NightsOn K.CODE K.bytes K.wrong stack.steady stack.blocks fuses.items choices.items (map night_plan nights.now) (outcomes_of p.outcomes) p.memory.items) }
 {
     let blocks = stack.blocks;
     match stack.steady {

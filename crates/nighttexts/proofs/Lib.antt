@@ -1,3 +1,4 @@
 pub mod TwoDigits
 pub mod Pairs
 pub mod Found
+pub mod Takings

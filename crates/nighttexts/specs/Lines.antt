@@ -12,30 +12,32 @@ use Rattle.ledgers.specs.declared.calls.Call.TheVariants.{Mount, Wake, Insert, C
 use Rattle.ledgers.specs.declared.calls.Answer.{Answer}
 use Rattle.ledgers.specs.declared.calls.Answer.TheVariants.{Mounted, Woken, Inserted, Committed, Refreshed, Found, Closed, Refused, OutOfTurn}
 
--- a record's words, as an insert takes them
+-- an offset's words, as an insert takes them
 abbrev pub offset_words : Offset → List ℕ
 offset_words x = offset_text (offset_fields x)
 
+-- an event's words, as an insert takes them
 abbrev pub event_words : Event → List ℕ
 event_words x = event_text (event_fields x)
 
--- what is said of all records of a sample: of offsets their mean, of events nothing
+-- what is said of all offsets of a sample: their mean
 abbrev pub offset_summary : List Offset → List ℕ
 offset_summary xs = mean_line (sum_of (map offset_fields xs)) (length xs) ++ codes "\n"
 
+-- of all events of a sample nothing is said
 abbrev pub event_summary : List Event → List ℕ
 event_summary xs = codes ""
 
 module _ {K : Type 0} where
   -- a call's first word
-  abbrev pub name_of : Call K → List ℕ
-  name_of Mount = codes "mount"
-  name_of Wake = codes "wake"
-  name_of (Insert x) = codes "insert"
-  name_of Commit = codes "commit"
-  name_of Refresh = codes "refresh"
-  name_of (Slot i) = codes "slot"
-  name_of Close = codes "close"
+  abbrev pub call_name : Call K → List ℕ
+  call_name Mount = codes "mount"
+  call_name Wake = codes "wake"
+  call_name (Insert x) = codes "insert"
+  call_name Commit = codes "commit"
+  call_name Refresh = codes "refresh"
+  call_name (Slot i) = codes "slot"
+  call_name Close = codes "close"
 
   -- what stands behind it, by the answer
   abbrev pub answer_text : (K → List ℕ) → Answer K → List ℕ
@@ -52,4 +54,4 @@ module _ {K : Type 0} where
 
   -- a call's line
   abbrev pub call_line : (K → List ℕ) → Call K → Answer K → List ℕ
-  call_line words c a = name_of c ++ (answer_text words a ++ codes "\n")
+  call_line words c a = call_name c ++ (answer_text words a ++ codes "\n")

@@ -1,5 +1,5 @@
 ghost use Rattle.std.specs.Prelude.{◌≡◌, ◌++◌, string_bytes, IfOk};
-ghost use Rattle.nighttexts.specs.Lines.{name_of, call_line};
+ghost use Rattle.nighttexts.specs.Lines.{call_name, call_line};
 
 use crate::kinds::Worded;
 use faults::FaultNumbers;
@@ -8,7 +8,7 @@ use std::alloc::AllocError;
 
 // A call's first word.
 pub(crate) fn name<K>(call: &Call<K>) -> &'static str
-    ensures { result.now ≡ name_of call.now }
+    ensures { result.now ≡ call_name call.now }
 {
     match call {
         Call::Mount => "mount",

@@ -1,9 +1,8 @@
 ghost use Rattle.std.specs.Prelude.{◌≡◌, ℕ, ◌≤◌, ◌++◌, List, length, string_bytes, IfOk};
 ghost use Rattle.nighttexts.specs.Lines.{offset_words, offset_summary, event_words, event_summary};
 
-use crate::averages::mean;
 use records::{Event, Offset};
-use sampletexts::{EventWords, MeanLine, OffsetNumbers};
+use sampletexts::{EventWords, MeanLine, OffsetNumbers, mean};
 use std::alloc::AllocError;
 
 // A kind of record as it is printed.

@@ -20,10 +20,11 @@ fn write_byte(out: &mut String, span: usize, place: usize, byte: u8) -> Result<(
 }
 
 // The memory of a device, each block of so many bytes a line.
+// After a want of memory nothing is said of what `out` holds.
 pub fn memory(out: &mut String, span: usize, bytes: &[u8]) -> Result<(), AllocError>
     ensures { IfOk result (λ _. string_bytes out.new ≡ string_bytes out.old ++ memory_text span bytes.now) }
 {
-    for (place, byte) in bytes.iter().enumerate() {
+    for (place, byte) in bytes.iter().enumerate() { // place up to bytes.len() - 1
         write_byte(out, span, place, *byte)?;
     }
     Ok(())

@@ -1,12 +1,12 @@
 ghost use Rattle.std.specs.Prelude.{◌≡◌, ◌++◌, map, string_bytes, IfOk};
 ghost use Rattle.script.specs.Plans.{night_plan};
 ghost use Rattle.nighttexts.specs.Lines.{offset_words, offset_summary, event_words, event_summary};
-ghost use Rattle.nighttexts.specs.Nights.{asked_name, refused_line, skipped_text, begun, asks_text, night_text, nights_text};
-ghost use Rattle.script.specs.Told.{told};
+ghost use Rattle.nighttexts.specs.Nights.{asked_name, format_refused_text, night_skipped_text, night_begun, asks_text, night_text, nights_text};
+ghost use Rattle.script.specs.Outcomes.{outcome_of};
 
 use crate::calls::name;
 use crate::kinds::Worded;
-use crate::stands::Stand;
+use crate::so_far::NightSoFar;
 use faults::{Fault, FaultNumbers};
 use ledgers::Answer;
 use records::{Event, Offset};
@@ -26,7 +26,7 @@ fn asked_name<K>(ask: &Ask<K>) -> &'static str
 
 // A line for each ask, where the format was refused.
 fn write_skipped<K>(out: &mut String, asks: &[Ask<K>]) -> Result<(), AllocError>
-    ensures { IfOk result (λ _. string_bytes out.new ≡ string_bytes out.old ++ skipped_text asks.now) }
+    ensures { IfOk result (λ _. string_bytes out.new ≡ string_bytes out.old ++ night_skipped_text asks.now) }
 {
     for ask in asks {
         writeln!(out, "{} skipped", asked_name(ask))?;
@@ -36,7 +36,7 @@ fn write_skipped<K>(out: &mut String, asks: &[Ask<K>]) -> Result<(), AllocError>
 
 // The line of a format that was refused.
 fn write_refused(out: &mut String, fault: Fault) -> Result<(), AllocError>
-    ensures { IfOk result (λ _. string_bytes out.new ≡ string_bytes out.old ++ refused_line fault) }
+    ensures { IfOk result (λ _. string_bytes out.new ≡ string_bytes out.old ++ format_refused_text fault) }
 {
     writeln!(out, "format refused {}", FaultNumbers(fault))
 }
@@ -49,11 +49,11 @@ fn write_asks<K: Worded>(
     asks: &[Ask<K>],
     answers: &[Answer<K>],
 ) -> Result<(), AllocError>
-    ensures { IfOk result (λ _. string_bytes out.new ≡ string_bytes out.old ++ asks_text K.words K.summary size (begun answers.now) asks.now) }
+    ensures { IfOk result (λ _. string_bytes out.new ≡ string_bytes out.old ++ asks_text K.words K.summary size (night_begun answers.now) asks.now) }
 {
-    let mut stand = Stand::begun(heap, answers);
+    let mut so_far = NightSoFar::begun(heap, answers);
     for ask in asks {
-        stand.write_ask(heap, out, size, ask)?;
+        so_far.write_ask(heap, out, size, ask)?;
     }
     Ok(())
 }
@@ -65,7 +65,7 @@ fn write_night<K: Worded>(
     night: &Night<K>,
     outcome: &Result<Vec<Answer<K>>, Fault>,
 ) -> Result<(), AllocError>
-    ensures { IfOk result (λ _. string_bytes out.new ≡ string_bytes out.old ++ night_text K.words K.summary (night_plan night.now) (told outcome.now)) }
+    ensures { IfOk result (λ _. string_bytes out.new ≡ string_bytes out.old ++ night_text K.words K.summary (night_plan night.now) (outcome_of outcome.now)) }
 {
     let asks = night.asks.as_slice();
     match outcome {
@@ -87,7 +87,7 @@ fn write_nights<K: Worded>(
     nights: &[Night<K>],
     outcomes: &[Result<Vec<Answer<K>>, Fault>],
 ) -> Result<(), AllocError>
-    ensures { IfOk result (λ _. string_bytes out.new ≡ string_bytes out.old ++ nights_text K.words K.summary (map night_plan nights.now) (map told outcomes.now)) }
+    ensures { IfOk result (λ _. string_bytes out.new ≡ string_bytes out.old ++ nights_text K.words K.summary (map night_plan nights.now) (map outcome_of outcomes.now)) }
 {
     for (night, outcome) in nights.iter().zip(outcomes) {
         write_night(heap, out, night, outcome)?;
@@ -96,25 +96,27 @@ fn write_nights<K: Worded>(
 }
 
 // The lines of nights of offsets, by what each came to.
+// After a want of memory nothing is said of what `out` holds.
 pub fn offset_nights(
     heap: Global,
     out: &mut String,
     nights: &[Night<Offset>],
     outcomes: &[Result<Vec<Answer<Offset>>, Fault>],
 ) -> Result<(), AllocError>
-    ensures { IfOk result (λ _. string_bytes out.new ≡ string_bytes out.old ++ nights_text offset_words offset_summary (map night_plan nights.now) (map told outcomes.now)) }
+    ensures { IfOk result (λ _. string_bytes out.new ≡ string_bytes out.old ++ nights_text offset_words offset_summary (map night_plan nights.now) (map outcome_of outcomes.now)) }
 {
     write_nights(heap, out, nights, outcomes)
 }
 
 // The same of events.
+// After a want of memory nothing is said of what `out` holds.
 pub fn event_nights(
     heap: Global,
     out: &mut String,
     nights: &[Night<Event>],
     outcomes: &[Result<Vec<Answer<Event>>, Fault>],
 ) -> Result<(), AllocError>
-    ensures { IfOk result (λ _. string_bytes out.new ≡ string_bytes out.old ++ nights_text event_words event_summary (map night_plan nights.now) (map told outcomes.now)) }
+    ensures { IfOk result (λ _. string_bytes out.new ≡ string_bytes out.old ++ nights_text event_words event_summary (map night_plan nights.now) (map outcome_of outcomes.now)) }
 {
     write_nights(heap, out, nights, outcomes)
 }

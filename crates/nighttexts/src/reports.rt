@@ -1,5 +1,5 @@
 ghost use Rattle.std.specs.Prelude.{◌≡◌, ◌≤◌, ◌++◌, length, vec_items, string_bytes, IfOk};
-ghost use Rattle.nighttexts.specs.Reports.{ledger_line, rows_text, found, sample_text, report_text};
+ghost use Rattle.nighttexts.specs.Reports.{ledger_line, night_rows_text, records_found, sample_text, night_report_text};
 
 use crate::kinds::Worded;
 use ledgers::{Answer, Ledger};
@@ -26,9 +26,9 @@ fn write_ledger<K: Copy + Drop>(out: &mut String, ledger: &Ledger<K>) -> Result<
 
 // A line for each slot in which a record was found.
 fn write_rows<K: Worded>(out: &mut String, answers: &[Answer<K>]) -> Result<(), AllocError>
-    ensures { IfOk result (λ _. string_bytes out.new ≡ string_bytes out.old ++ rows_text K.words 0 answers.now) }
+    ensures { IfOk result (λ _. string_bytes out.new ≡ string_bytes out.old ++ night_rows_text K.words 0 answers.now) }
 {
-    for (slot, answer) in answers.iter().enumerate() {
+    for (slot, answer) in answers.iter().enumerate() { // slot up to answers.len() - 1
         if let Answer::Found(record) = answer {
             write!(out, "slot {slot}: ")?;
             record.write_words(out)?;
@@ -40,7 +40,7 @@ fn write_rows<K: Worded>(out: &mut String, answers: &[Answer<K>]) -> Result<(), 
 
 // The records that were found.
 fn records_found<K: Copy + Drop>(heap: Global, answers: &[Answer<K>]) -> Result<Vec<K>, AllocError>
-    ensures { IfOk result (λ v. vec_items v ≡ found answers.now) }
+    ensures { IfOk result (λ v. vec_items v ≡ records_found answers.now) }
 {
     let mut records = Vec::new(heap);
     for answer in answers {
@@ -74,7 +74,7 @@ pub(crate) fn write_report<K: Worded>(
     answers: &[Answer<K>],
 ) -> Result<(), AllocError>
     requires { length answers.now ≤ 65535 }
-    ensures { IfOk result (λ _. string_bytes out.new ≡ string_bytes out.old ++ report_text K.words K.summary ledger.now is_awake answers.now) }
+    ensures { IfOk result (λ _. string_bytes out.new ≡ string_bytes out.old ++ night_report_text K.words K.summary ledger.now is_awake answers.now) }
 {
     write_ledger(out, ledger)?;
     if ledger.is_open() && is_awake {

@@ -2,7 +2,7 @@
 use Rattle.std.proofs.Common.{◌≡◌, true, List, [], ◌∷◌, ◌++◌, map, Ok, vec_items, refl, ap}
 use Rattle.std.specs.Global.{Vec}
 use Rattle.std.proofs.lemmas.List.{map-append}
-use Rattle.parsing.specs.Cards.{sleeps, begun, with_ask}
+use Rattle.parsing.specs.Cards.{sleeps, begin_night, with_ask}
 use Rattle.parsing.proofs.Sleeping.{sleeps_shown}
 use Rattle.script.specs.Plans.{NightPlan, night_plan}
 use Rattle.script.specs.Shown.{ask_shown, night_shown}
@@ -14,7 +14,7 @@ module _ {K F : Type 0} (fields : K → F) where
   said n = night_shown fields (night_plan n)
 
   -- a night of which nothing is asked yet
-  pub one_begun : (nights : List (Night K)) (n : Night K) → sleeps (map night_plan nights) ≡ true → vec_items n.asks ≡ [] → begun (map said nights) (n.size, n.log_blocks, n.seed) ≡ Ok (map said (nights ++ (n ∷ [])))
+  pub one_begun : (nights : List (Night K)) (n : Night K) → sleeps (map night_plan nights) ≡ true → vec_items n.asks ≡ [] → begin_night (map said nights) (n.size, n.log_blocks, n.seed) ≡ Ok (map said (nights ++ (n ∷ [])))
   one_begun nights n asleep none = rw (sleeps_shown fields nights, asleep, map-append said nights (n ∷ []), none) refl
 
   -- a night of which one thing more is asked

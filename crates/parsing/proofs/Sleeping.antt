@@ -1,7 +1,7 @@
 -- The nights of a scenario: what their calls leave a sampler, whatever a record is shown as. Assumes nothing.
 use Rattle.std.proofs.Common.{◌≡◌, ℕ, suc, zero, ◌+◌, ◌-◌, ◌<◌, Bool, false, not, List, [], ◌∷◌, map, length, get_or, vec_items, refl, ap, ◌∙◌, arith}
 use Rattle.ledgers.specs.declared.calls.Call.TheVariants.{Mount, Wake, Insert, Commit, Refresh, Slot, Close}
-use Rattle.parsing.specs.Asks.{awake_after, awake_at_end}
+use Rattle.parsing.specs.Asks.{awake_after_ask, awake_at_end}
 use Rattle.parsing.specs.Cards.{sleeps}
 use Rattle.script.specs.declared.cards.Ask.{Ask}
 use Rattle.script.specs.declared.cards.Ask.TheVariants.{Calls, NoSuchRecord, Report}
@@ -10,7 +10,7 @@ use Rattle.script.specs.Plans.{night_plan}
 use Rattle.script.specs.Shown.{ask_shown, night_shown}
 
 module _ {K F : Type 0} (fields : K → F) where
-  after_shown : (awake : Bool) (ask : Ask K) → awake_after awake (ask_shown fields ask) ≡ awake_after awake ask
+  after_shown : (awake : Bool) (ask : Ask K) → awake_after_ask awake (ask_shown fields ask) ≡ awake_after_ask awake ask
   after_shown awake (Calls Mount) = refl
   after_shown awake (Calls Wake) = refl
   after_shown awake (Calls (Insert x)) = refl
@@ -24,7 +24,7 @@ module _ {K F : Type 0} (fields : K → F) where
   end_shown : (awake : Bool) (asks : List (Ask K)) → awake_at_end awake (map (ask_shown fields) asks) ≡ awake_at_end awake asks
   end_shown awake [] = refl
   end_shown awake (ask ∷ asks) =
-      ap (λ (a : Bool). awake_at_end a (map (ask_shown fields) asks)) (after_shown awake ask) ∙ end_shown (awake_after awake ask) asks
+      ap (λ (a : Bool). awake_at_end a (map (ask_shown fields) asks)) (after_shown awake ask) ∙ end_shown (awake_after_ask awake ask) asks
 
   pub sleeps_shown : (nights : List (Night K)) → sleeps (map (λ n. night_shown fields (night_plan n)) nights) ≡ sleeps (map night_plan nights)
   sleeps_shown [] = refl

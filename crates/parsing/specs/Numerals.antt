@@ -24,10 +24,10 @@ after_minus [] = None
 after_minus (a ∷ rest) = cond (a == 45) (Some rest) None
 
 -- the number in a word, by what follows its minus sign, if it has one: down to -2^31, and else up to 2^31 - 1
-abbrev pub offset_of : Option (List ℕ) → List ℕ → Option ℤ
-offset_of (Some digits) word = option_map (λ n. neg_ℤ (pos n)) (read_number 10 0x8000_0000 digits)
-offset_of None word = option_map pos (read_number 10 0x7FFF_FFFF word)
+abbrev pub signed_of : Option (List ℕ) → List ℕ → Option ℤ
+signed_of (Some digits) word = option_map (λ n. neg_ℤ (pos n)) (read_number 10 0x8000_0000 digits)
+signed_of None word = option_map pos (read_number 10 0x7FFF_FFFF word)
 
 -- an offset: a decimal number that a signed number of 32 bits can be
 abbrev pub read_offset : List ℕ → Option ℤ
-read_offset word = offset_of (after_minus word) word
+read_offset word = signed_of (after_minus word) word

@@ -23,7 +23,7 @@ new_reservoir x = of_reservoir (record { size = x.0; seed = x.1; commands = [] }
 
 -- a card with no night yet, of offsets unless it is told otherwise
 abbrev pub new_card : Stack → ScriptPlan
-new_card stack = of_card (record { stack = stack; fuses = []; choices = []; nights = of_offsets []; printed = false })
+new_card stack = of_card (record { stack = stack; fuses = []; choices = []; nights = of_offsets []; ends_with_memory = false })
 
 -- one command more
 abbrev pub with_command : ReservoirPlan → Command → ReservoirPlan
@@ -35,14 +35,14 @@ go_on (of_reservoir p) name words = shown (λ command. of_reservoir (with_comman
 go_on (of_card p) name words = shown of_card (grow p name words)
 
 -- a new plan behind those so far
-abbrev pub started : List ScriptPlan → Result ScriptPlan Expected → Result (List ScriptPlan) Expected
-started plans made = shown (λ p. plans ++ (p ∷ [])) made
+abbrev pub start_plan : List ScriptPlan → Result ScriptPlan Expected → Result (List ScriptPlan) Expected
+start_plan plans made = shown (λ p. plans ++ (p ∷ [])) made
 
 -- what a line makes of the plans so far, by its name and the words after it: a new plan, or more in the last
 abbrev pub add_named : List ScriptPlan → List ℕ → List (List ℕ) → Result (List ScriptPlan) Expected
 add_named plans name words =
-    cond (bytes_eq name (codes "reservoir")) (started plans (shown new_reservoir (read_reservoir words)))
-    (cond (bytes_eq name (codes "stack")) (started plans (shown new_card (read_stack words)))
+    cond (bytes_eq name (codes "reservoir")) (start_plan plans (shown new_reservoir (read_reservoir words)))
+    (cond (bytes_eq name (codes "stack")) (start_plan plans (shown new_card (read_stack words)))
     (any.change_last ScenarioFirst (λ p. go_on p name words) plans))
 
 -- the same, of a line's words: nothing new, where it has none
@@ -50,6 +50,7 @@ abbrev pub add_words : List ScriptPlan → List (List ℕ) → Result (List Scri
 add_words plans [] = Ok plans
 add_words plans (name ∷ words) = add_named plans name words
 
+-- and of a line's bytes
 abbrev pub add_text : List ScriptPlan → List ℕ → Result (List ScriptPlan) Expected
 add_text plans line = add_words plans (words_of line)
 

@@ -2,7 +2,7 @@ ghost use Rattle.std.specs.Prelude.{◌≡◌};
 ghost use Rattle.failures.specs.Answers.{UnlessMemory};
 ghost use Rattle.parsing.specs.Words.{read_none};
 ghost use Rattle.script.specs.declared.expectations.Expected.TheVariants.{Alone};
-ghost use Rattle.parsing.specs.Cards.{has_bench, none_yet, before_format, to_bench, grow_nights, kind_of, read_kind, add_fuses, add_choices, set_kind, at_end, grow};
+ghost use Rattle.parsing.specs.Cards.{has_bench, none_yet, before_format, to_bench, grow_nights, kind_of, read_kind, add_fuses, add_choices, set_kind, with_memory_printed, grow};
 ghost use Rattle.languages.specs.Expecting.{shown};
 ghost use Rattle.script.specs.Shown.{script_nights, script_card};
 ghost use Rattle.words.specs.Words.{texts};
@@ -111,10 +111,10 @@ fn set_kind(heap: Global, scenario: &mut CardScenario, words: &[&str]) -> Result
 
 // Ends a scenario with the device's memory.
 fn end(scenario: &mut CardScenario, words: &[&str]) -> Result<(), Expected>
-    ensures { shown (λ done. script_card scenario.new) result ≡ shown (λ done. at_end (script_card scenario.old)) (read_none Alone (texts words.now)) }
+    ensures { shown (λ done. script_card scenario.new) result ≡ shown (λ done. with_memory_printed (script_card scenario.old)) (read_none Alone (texts words.now)) }
 {
     none(words, Expected::Alone)?;
-    scenario.printed = true;
+    scenario.ends_with_memory = true;
     Ok(())
 }
 
@@ -143,7 +143,7 @@ pub(crate) fn grow(
 ) -> Result<(), Failure<Expected>>
     ensures { UnlessMemory (λ done. script_card scenario.new) (grow (script_card scenario.old) name.now (texts words.now)) result }
 {
-    if scenario.printed {
+    if scenario.ends_with_memory {
         return Err(Failure::Because(Expected::CardLast));
     }
     match name {

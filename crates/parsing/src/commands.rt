@@ -2,7 +2,7 @@ ghost use Rattle.std.specs.Prelude.{◌≡◌};
 ghost use Rattle.parsing.specs.Words.{read_none, read_slot, read_command};
 ghost use Rattle.words.specs.Words.{texts};
 
-use crate::given::offset_words;
+use crate::inserts::read_offset_words;
 use crate::numerals::half;
 use script::{Command, Expected};
 
@@ -33,7 +33,7 @@ pub(crate) fn command(name: &str, words: &[&str]) -> Result<Command, Expected>
 {
     match name {
         "insert" => {
-            let (second, satellite, nanoseconds) = offset_words(words)?;
+            let (second, satellite, nanoseconds) = read_offset_words(words)?;
             Ok(Command::Insert {
                 second,
                 satellite,

@@ -4,7 +4,7 @@
 mod asks;
 mod cards;
 mod commands;
-mod given;
+mod inserts;
 mod nights;
 mod numerals;
 mod parser;

@@ -3,7 +3,7 @@ ghost use Rattle.failures.specs.Answers.{UnlessMemory};
 ghost use Rattle.languages.specs.Scripts.{Added};
 ghost use Rattle.languages.specs.Scripts as any;
 ghost use Rattle.languages.specs.Expecting.{shown};
-ghost use Rattle.parsing.specs.Scripts.{new_reservoir, new_card, started, go_on, add_named, add_text, Parsed};
+ghost use Rattle.parsing.specs.Scripts.{new_reservoir, new_card, start_plan, go_on, add_named, add_text, Parsed};
 ghost use Rattle.parsing.specs.Words.{read_reservoir, read_stack};
 ghost use Rattle.script.specs.Shown.{ScriptPlan, script_plan};
 ghost use Rattle.script.specs.declared.expectations.Expected.TheVariants.{ScenarioFirst};
@@ -39,7 +39,7 @@ fn new_card(heap: Global, words: &[&str]) -> Result<Scenario, Expected>
         fuses: Vec::new(heap),
         choices: Vec::new(heap),
         nights: Nights::Offsets(Vec::new(heap)),
-        printed: false,
+        ends_with_memory: false,
     }))
 }
 
@@ -82,7 +82,7 @@ fn start(
     scenarios: &mut Vec<Scenario>,
     made: Result<Scenario, Expected>,
 ) -> Result<(), Failure<Expected>>
-    ensures { Added script_plan (started (map script_plan scenarios.old.items) (shown script_plan made)) scenarios.new.items result }
+    ensures { Added script_plan (start_plan (map script_plan scenarios.old.items) (shown script_plan made)) scenarios.new.items result }
 {
     scenarios.push(made.map_err(Failure::Because)?)?;
     Ok(())

@@ -4,17 +4,15 @@ ghost use Rattle.words.specs.Words.{texts};
 
 use crate::numerals::{half, seed};
 use script::{Expected, Stack, Steady};
+use stores::BLOCK_LIMIT;
 use words::number_within;
 
-// How many blocks a device has at most.
-const BLOCKS_LIMIT: u32 = 65_536;
-
 // M and SEED.
-fn reservoir_numbers(size: &str, from: &str) -> Result<(u16, u64), Expected>
-    ensures { result ≡ reservoir_numbers size.now from.now }
+fn reservoir_numbers(size: &str, seed_word: &str) -> Result<(u16, u64), Expected>
+    ensures { result ≡ reservoir_numbers size.now seed_word.now }
 {
     let size = half(size).ok_or(Expected::Size)?;
-    let seed = seed(from).ok_or(Expected::Seed)?;
+    let seed = seed(seed_word).ok_or(Expected::Seed)?;
     Ok((size, seed))
 }
 
@@ -32,7 +30,7 @@ pub(crate) fn reservoir(words: &[&str]) -> Result<(u16, u64), Expected>
 fn of_blocks(steady: Steady, blocks: &str) -> Result<Stack, Expected>
     ensures { result ≡ of_blocks steady blocks.now }
 {
-    let blocks = number_within(blocks, BLOCKS_LIMIT).ok_or(Expected::Blocks)?;
+    let blocks = number_within(blocks, BLOCK_LIMIT).ok_or(Expected::Blocks)?;
     Ok(Stack { steady, blocks })
 }
 

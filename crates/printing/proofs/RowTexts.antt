@@ -1,7 +1,7 @@
 -- The lines of a report. Assumes nothing.
 use Rattle.std.proofs.Common.{◌≡◌, ℕ, List, ◌++◌, map, length, ℤ, codes, decimal, refl}
 use Rattle.std.proofs.lemmas.List.{length-map}
-use Rattle.scenarios.specs.Worked.{row_of}
+use Rattle.scenarios.specs.Answering.{row_of}
 use Rattle.scenarios.specs.declared.answers.Row.{Row}
 use Rattle.sampletexts.specs.Lines.{mean_line}
 use Rattle.printing.specs.Lines.{rows_text, report_text}

@@ -14,13 +14,15 @@ name_of (Insert second satellite nanoseconds) = codes "insert"
 name_of (Slot i) = codes "slot"
 name_of Report = codes "report"
 
--- a line for each filled slot
+-- the line of a filled slot
 abbrev pub row_text : ℕ × Fields → List ℕ
 row_text x = slot_text x.0 (offset_text x.1) ++ codes "\n"
 
+-- a line for each of them
 abbrev pub rows_text : List (ℕ × Fields) → List ℕ
 rows_text xs = flat_map row_text xs
 
+-- a report's lines: how many records were accepted, the filled slots, and the mean
 abbrev pub report_text : ℕ → List (ℕ × Fields) → ℤ → List ℕ
 report_text count rows sum = codes "counted " ++ (decimal count ++ (codes "\n" ++ (rows_text rows ++ mean_line sum (length rows))))
 

@@ -1,5 +1,5 @@
 ghost use Rattle.std.specs.Prelude.{◌≡◌, map, Some};
-ghost use Rattle.scenarios.specs.Worked.{row_of, said};
+ghost use Rattle.scenarios.specs.Answering.{row_of, said};
 ghost use Rattle.printing.specs.Lines.{name_of, rows_text, report_text, reply_text};
 
 use faults::{Fault, FaultNumbers};

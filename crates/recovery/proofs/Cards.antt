@@ -4,11 +4,11 @@ use Rattle.std.proofs.lemmas.List.{length-take}
 use Rattle.stores.specs.Meanings.{Meaning}
 use Rattle.layouts.specs.declared.entries.Entry.{Entry}
 use Rattle.cards.specs.Cards.{slot_block}
-use Rattle.recovery.specs.Frames.{Frame, InLimits, log_block, frame_blocks}
-use Rattle.recovery.specs.Recoveries.{Recovers, Safe}
-use Rattle.recovery.specs.Stages.{Within, Fit, Counting, Just, Counts}
-use Rattle.recovery.specs.Tellings.{sampled, Tells}
-use Rattle.recovery.proofs.Telling.{tells_same, tells_rows}
+use Rattle.recovery.proofs.Frames.{Frame, InLimits, log_block, frame_blocks}
+use Rattle.recovery.proofs.Recoveries.{Recovers, Safe}
+use Rattle.recovery.proofs.Standings.{Within, Fit, Counting, Just, Counts}
+use Rattle.recovery.proofs.Tellings.{sampled, Tells}
+use Rattle.recovery.proofs.TellingLaws.{tells_same, tells_rows}
 
 -- one of two heads
 abbrev pub OneOf : Frame → ℕ → ℕ → ℕ → ℕ → List ℕ → Type 0

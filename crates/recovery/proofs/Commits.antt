@@ -10,13 +10,13 @@ use Rattle.layouts.specs.Heads.{Fields, fields_bytes}
 use Rattle.cards.specs.Memories.{Memory}
 use Rattle.workings.specs.Commits.{has_uncommitted, commit_calls, all_committed}
 use Rattle.traces.specs.Traces.{Trace}
-use Rattle.recovery.specs.Frames.{Frame, frame, fields_of, log_block}
-use Rattle.recovery.specs.Laws.{AfterCommit}
-use Rattle.recovery.specs.Opens.{Open}
-use Rattle.recovery.specs.Recoveries.{Goes}
-use Rattle.recovery.specs.Stages.{Fit, Counting, Just, written, Stage}
+use Rattle.recovery.proofs.Frames.{Frame, frame, fields_of, log_block}
+use Rattle.recovery.proofs.Laws.{AfterCommit}
+use Rattle.recovery.proofs.Opens.{Open}
+use Rattle.recovery.proofs.Recoveries.{Goes}
+use Rattle.recovery.proofs.Standings.{Fit, Counting, Just, written, Standing}
 use Rattle.recovery.proofs.Cards.{OneOf, old_safe, heads_safe}
-use Rattle.recovery.proofs.Fitting.{fit_wider, fit_fewer, fit_log, fit_head, fit_grown, stage_wider}
+use Rattle.recovery.proofs.Fitting.{fit_wider, fit_fewer, fit_log, fit_head, fit_grown, standing_wider}
 use Rattle.recovery.proofs.Steps.{goes_none, Reached, Broken, reached_wider, write_step, flush_step, reached_end, broken_end}
 
 pub head_long : (x : Fields) → length (fields_bytes x) ≡ 504
@@ -75,14 +75,14 @@ module _ {State : Type 0} (does : State → Call → Response State → Type 0) 
         (omega arith) (head_long t.head) (fit_head (inr is))
         (λ b x ne fit. record { head = λ e. absurd (ne e); row = fit.row; entry = fit.entry }) (fit_head is)
 
-    settled : {u : State} → Stage f (meaning u) New New → Goes m (meaning u) → Open base (meaning u) (all_committed t) rs (length rs) × Goes m (meaning u)
-    settled stage goes = (
+    settled : {u : State} → Standing f (meaning u) New New → Goes m (meaning u) → Open base (meaning u) (all_committed t) rs (length rs) × Goes m (meaning u)
+    settled standing goes = (
       record {
         rows = o.rows;
         log = o.log;
         limits = o.limits;
         rest = record {
-          stage = stage_wider (λ b x fit. fit) (λ b x fit. fit_fewer (omega arith) fit) stage;
+          standing = standing_wider (λ b x fit. fit) (λ b x fit. fit_fewer (omega arith) fit) standing;
           counts = record {
             fits = o.rest.counts.fits;
             counted = o.rest.counts.counted;
@@ -114,7 +114,7 @@ module _ {State : Type 0} (does : State → Call → Response State → Type 0) 
   pub commit_law : {base : ℕ} {t : Memory} {rs : List (List ℕ)} {n : ℕ} (s u : State) (r : Answer) → Open base (meaning s) t rs n
       → Trace does meaning own source true s (commit_calls t) r u → AfterCommit base source (meaning s) (meaning u) t rs n r
   commit_law {t = t} s u r o h =
-      elim (log_step o (has_uncommitted t) refl (record { next = s; stage = o.rest.stage; goes = goes_none o.rest.stage.on; rest = h })) [
+      elim (log_step o (has_uncommitted t) refl (record { next = s; standing = o.rest.standing; goes = goes_none o.rest.standing.on; rest = h })) [
         | inr b ↦ by_old o (omega arith) b
         | inl a ↦ elim (flush_step does meaning own source _ _ a) [
           | inr b ↦ by_old o (omega arith) b

@@ -7,8 +7,8 @@ use Rattle.layouts.specs.Entries.{entry_at}
 use Rattle.layouts.specs.Shapes.{sample_blocks}
 use Rattle.layouts.specs.Slots.{slot_at}
 use Rattle.layouts.specs.declared.entries.Entry.{Entry}
-use Rattle.recovery.specs.Frames.{Frame, log_block}
-use Rattle.recovery.specs.Stages.{Within, Reads, Fit, written, Stage}
+use Rattle.recovery.proofs.Frames.{Frame, log_block}
+use Rattle.recovery.proofs.Standings.{Within, Reads, Fit, written, Standing}
 
 -- what a call brings: the bytes of a write at its block
 whole_written : (P : ℕ → List ℕ → Type 0) (a b : ℕ) (bs x : List ℕ) → P a bs → Written a bs b (whole x) → P b x
@@ -34,9 +34,9 @@ none_within {m} {n} {P} w h b x l st =
     elim (w.stands b (whole x) lt st) [ inl o ↦ h b x lt o | inr y ↦ absurd y ]
 
 -- a block written
-pub wrote_stage : {f : Frame} {m n : Meaning} {P Q R : ℕ → List ℕ → Type 0} {a : ℕ} {bs : List ℕ} → Stage f m P Q → Wrote m n a bs → P a bs
-    → ((b : ℕ) (x : List ℕ) → (b ≡ a → ⊥) → Q b x → R b x) → R a bs → Stage f n P R
-wrote_stage {f} {m} {n} {P} {Q} {R} {a} {bs} st w p g q = record {
+pub wrote_standing : {f : Frame} {m n : Meaning} {P Q R : ℕ → List ℕ → Type 0} {a : ℕ} {bs : List ℕ} → Standing f m P Q → Wrote m n a bs → P a bs
+    → ((b : ℕ) (x : List ℕ) → (b ≡ a → ⊥) → Q b x → R b x) → R a bs → Standing f n P R
+wrote_standing {f} {m} {n} {P} {Q} {R} {a} {bs} st w p g q = record {
   on = w.on;
   room = rw w.size st.room;
   stands = wrote_within w st.stands p;
@@ -49,14 +49,14 @@ wrote_stage {f} {m} {n} {P} {Q} {R} {a} {bs} st w p g q = record {
 }
 
 -- a flush leaves what is read, and that alone may stand
-pub flushed_stage : {f : Frame} {m n : Meaning} {P Q : ℕ → List ℕ → Type 0} → Stage f m P Q → Flushed m n → Stage f n Q Q
-flushed_stage {f} {m} {n} {P} {Q} st w =
+pub flushed_standing : {f : Frame} {m n : Meaning} {P Q : ℕ → List ℕ → Type 0} → Standing f m P Q → Flushed m n → Standing f n Q Q
+flushed_standing {f} {m} {n} {P} {Q} st w =
     let read : Reads n Q = λ b x l e. (let lt : b < m.size = rw w.size at l in st.reads b x lt (sym (w.reads b lt) ∙ e)) in
     record { on = w.on; room = rw w.size st.room; stands = λ b x l h. read b x l (sym (w.settled.only b (whole x) l h)); reads = read }
 
-pub stage_wider : {f : Frame} {m : Meaning} {P P′ Q Q′ : ℕ → List ℕ → Type 0} → ((b : ℕ) (x : List ℕ) → P b x → P′ b x)
-    → ((b : ℕ) (x : List ℕ) → Q b x → Q′ b x) → Stage f m P Q → Stage f m P′ Q′
-stage_wider p q st =
+pub standing_wider : {f : Frame} {m : Meaning} {P P′ Q Q′ : ℕ → List ℕ → Type 0} → ((b : ℕ) (x : List ℕ) → P b x → P′ b x)
+    → ((b : ℕ) (x : List ℕ) → Q b x → Q′ b x) → Standing f m P Q → Standing f m P′ Q′
+standing_wider p q st =
     record { on = st.on; room = st.room; stands = λ b x l h. p b x (st.stands b x l h); reads = λ b x l h. q b x (st.reads b x l h) }
 
 -- a wider sort

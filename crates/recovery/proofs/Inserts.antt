@@ -16,17 +16,17 @@ use Rattle.cards.specs.Verdicts.{and_then, check}
 use Rattle.workings.specs.Inserts.{next_slot, insert_test, next_entry, inserted, insert_calls}
 use Rattle.traces.specs.Traces.{Trace}
 use Rattle.traces.proofs.Traces.{none_made}
-use Rattle.recovery.specs.Frames.{Frame, frame, log_block}
-use Rattle.recovery.specs.Laws.{AfterInsert}
-use Rattle.recovery.specs.Opens.{Open}
-use Rattle.recovery.specs.Recoveries.{Lost, Goes}
-use Rattle.recovery.specs.Stages.{Fit, Counting, Just, written, Stage, Counts}
+use Rattle.recovery.proofs.Frames.{Frame, frame, log_block}
+use Rattle.recovery.proofs.Laws.{AfterInsert}
+use Rattle.recovery.proofs.Opens.{Open}
+use Rattle.recovery.proofs.Recoveries.{Lost, Goes}
+use Rattle.recovery.proofs.Standings.{Fit, Counting, Just, written, Standing, Counts}
 use Rattle.recovery.proofs.Cards.{old_safe}
-use Rattle.recovery.proofs.Fitting.{fit_fewer, fit_log, fit_grown, stage_wider}
+use Rattle.recovery.proofs.Fitting.{fit_fewer, fit_log, fit_grown, standing_wider}
 use Rattle.recovery.proofs.OneMore.{sampled_more, tells_passed, tells_noted, noted, entry_for, noted_below}
 use Rattle.recovery.proofs.Puts.{rows_put, flags_put, twelve_put, work_long, work_entries}
 use Rattle.recovery.proofs.Steps.{goes_none, write_step, reached_end, broken_end}
-use Rattle.recovery.proofs.Telling.{tells_same}
+use Rattle.recovery.proofs.TellingLaws.{tells_same}
 
 -- what the tests of an insert let through
 both_checked : (a b : Bool) (e g : Fault) → and_then (check a e) (λ _. check b g) ≡ Ok tt → (a ≡ true) × (b ≡ true)
@@ -112,7 +112,7 @@ module _ {base : ℕ} {m : Meaning} {t : Memory} {rs : List (List ℕ)} {n : ℕ
         rows = o.rows;
         log = o.log;
         limits = o.limits;
-        rest = record { stage = o.rest.stage; counts = counts_passed r few_records o.rest.counts none };
+        rest = record { standing = o.rest.standing; counts = counts_passed r few_records o.rest.counts none };
         shape = record { rows = o.shape.rows; row = o.shape.row; flags = o.shape.flags; work = o.shape.work };
         count = one_counted;
         held = λ s l. o.held s l ∙ ap {B = Option (List ℕ)} Some (sym (sampled_more f rs r s ∙ rw none refl));
@@ -142,13 +142,13 @@ module _ {base : ℕ} {m : Meaning} {t : Memory} {rs : List (List ℕ)} {n : ℕ
         (work_entries o.log c (entry_for rs r) t.work o.shape.work twelve (let l = few_records in omega arith) o.working)
 
     -- a candidate, over a store that is at rest with its entry
-    open_noted : {q : Meaning} → Stage f q (Fit f (Counting f n k) (Just o.rows) log_after k) (Fit f (Counting f n k) (Just o.rows) log_after (written k (suc c)))
+    open_noted : {q : Meaning} → Standing f q (Fit f (Counting f n k) (Just o.rows) log_after k) (Fit f (Counting f n k) (Just o.rows) log_after (written k (suc c)))
         → Open base q (noted_memory t slot r (suc c)) (rs ++ r ∷ []) n
-    open_noted stage = record {
+    open_noted standing = record {
       rows = o.rows;
       log = log_after;
       limits = o.limits;
-      rest = record { stage = stage; counts = counts_noted r few_records o.rest.counts slot has room };
+      rest = record { standing = standing; counts = counts_noted r few_records o.rest.counts slot has room };
       shape = record {
         rows = length-set t.rows slot r ∙ o.shape.rows;
         row = twelve_put t.rows r slot twelve (let l = inside in let z = o.shape.rows in omega arith) o.shape.row;
@@ -162,11 +162,11 @@ module _ {base : ℕ} {m : Meaning} {t : Memory} {rs : List (List ℕ)} {n : ℕ
     }
 
     -- the log block is not full yet
-    noted_stage : (c % 31 ≡ 30 → ⊥) → Stage f m (Fit f (Counting f n k) (Just o.rows) log_after k) (Fit f (Counting f n k) (Just o.rows) log_after (written k (suc c)))
-    noted_stage part =
+    noted_standing : (c % 31 ≡ 30 → ⊥) → Standing f m (Fit f (Counting f n k) (Just o.rows) log_after k) (Fit f (Counting f n k) (Just o.rows) log_after (written k (suc c)))
+    noted_standing part =
         let order = o.rest.counts.order in
-        stage_wider (λ b x fit. fit_noted (entry_for rs r) order fit)
-        (λ b x fit. fit_noted (entry_for rs r) (omega arith) (fit_fewer (omega arith) fit)) o.rest.stage
+        standing_wider (λ b x fit. fit_noted (entry_for rs r) order fit)
+        (λ b x fit. fit_noted (entry_for rs r) (omega arith) (fit_fewer (omega arith) fit)) o.rest.standing
 
     -- the log block is full, and written
     abbrev Old : ℕ → List ℕ → Type 0
@@ -209,7 +209,7 @@ module _ {State : Type 0} (does : State → Call → Response State → Type 0) 
     no_call : (p : Option ℕ) → Open base (meaning s) (inserted t p bytes) (rs ++ bytes ∷ []) n → Trace does meaning own source true s [] r u → After p
     no_call p after h =
         let e = none_made does meaning own source true s u r h in
-        let on = o.rest.stage.on in
+        let on = o.rest.standing.on in
         subst (λ (a : Answer). MatchResult a (λ done. Open base (meaning u) (inserted t p bytes) (rs ++ bytes ∷ []) n × Goes (meaning s) (meaning u)) (λ e. Lost (frame base t) source (meaning s) (meaning u) (take n rs) (take n rs) e))
         (sym e.0) (subst (λ (x : State). Open base (meaning x) (inserted t p bytes) (rs ++ bytes ∷ []) n × Goes (meaning s) (meaning x)) (sym e.1) (after, goes_none on))
 
@@ -218,17 +218,17 @@ module _ {State : Type 0} (does : State → Call → Response State → Type 0) 
     noted_by slot e room twelve false part h =
         no_call (Some slot)
         (subst (λ x. Open base (meaning s) (noted_memory t slot bytes x) (rs ++ bytes ∷ []) n) (sym (add-one t.head.entries))
-        (open_noted o bytes few slot e room twelve (noted_stage o bytes few slot e room twelve (eqb-false _ _ part)))) h
+        (open_noted o bytes few slot e room twelve (noted_standing o bytes few slot e room twelve (eqb-false _ _ part)))) h
     noted_by slot e room twelve true full h =
         let last = eqb-true _ _ full in
         elim (write_step does meaning own source (frame base t) (meaning s) {P = Old o bytes few slot e room twelve} (log_block (frame base t) t.head.entries) (work_after o bytes few slot e room twelve)
-        (record { next = s; stage = o.rest.stage; goes = goes_none o.rest.stage.on; rest = h })
+        (record { next = s; standing = o.rest.standing; goes = goes_none o.rest.standing.on; rest = h })
         (omega arith) (work_long t.work t.head.entries (next_entry t bytes) o.shape.work twelve)
         (old_fits o bytes few slot e room twelve) (others_fit o bytes few slot e room twelve) (after_fits o bytes few slot e room twelve _ (omega arith))) [
           | inr b ↦ broken_end does meaning own source _ _ _ (take n rs) (take n rs) b (λ place w. old_safe o.limits (meaning u) place (take n rs) o.rest.counts w)
-          | inl a ↦ reached_end does meaning own source _ _ _ _ a (λ stage goes. (
+          | inl a ↦ reached_end does meaning own source _ _ _ _ a (λ standing goes. (
             subst (λ x. Open base (meaning u) (noted_memory t slot bytes x) (rs ++ bytes ∷ []) n) (sym (add-one t.head.entries))
-                (open_noted o bytes few slot e room twelve (stage_wider (λ b x fit. fit_noted (entry_for rs bytes) o.rest.counts.order fit) (λ b x fit. fit) stage)),
+                (open_noted o bytes few slot e room twelve (standing_wider (λ b x fit. fit_noted (entry_for rs bytes) o.rest.counts.order fit) (λ b x fit. fit) standing)),
             goes,
           ))
         ]

@@ -1,4 +1,10 @@
-pub mod Telling
+pub mod Frames
+pub mod Tellings
+pub mod Recoveries
+pub mod Standings
+pub mod Opens
+pub mod Laws
+pub mod TellingLaws
 pub mod OneMore
 pub mod Fitting
 pub mod Cards

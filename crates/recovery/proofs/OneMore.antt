@@ -9,9 +9,9 @@ use Rattle.sampling.specs.Draws.{slot_of}
 use Rattle.sampling.specs.Samples.{numbered, is_slot, sample_at}
 use Rattle.sampling.proofs.SampleLaws.{sample_one_more}
 use Rattle.layouts.specs.declared.entries.Entry.{Entry}
-use Rattle.recovery.specs.Frames.{Frame}
-use Rattle.recovery.specs.Tellings.{newest_in, sampled, Logged, Tells}
-use Rattle.recovery.proofs.Telling.{newest_more, newest_same}
+use Rattle.recovery.proofs.Frames.{Frame}
+use Rattle.recovery.proofs.Tellings.{newest_in, sampled, Logged, Tells}
+use Rattle.recovery.proofs.TellingLaws.{newest_more, newest_same}
 
 -- the sample
 unwrap_cond : (b : Bool) (r : List ℕ) (o : Option (List ℕ)) (d : List ℕ) → unwrap_or (cond b (Some r) o) d ≡ cond b r (unwrap_or o d)

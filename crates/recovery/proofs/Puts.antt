@@ -9,8 +9,8 @@ use Rattle.layouts.specs.declared.entries.Entry.{Entry}
 use Rattle.layouts.proofs.EntryLaws.{entry_back, entry_here, entry_other}
 use Rattle.layouts.proofs.Spans.{length_with}
 use Rattle.cards.proofs.Entries.{put_at}
-use Rattle.recovery.specs.Frames.{Frame}
-use Rattle.recovery.specs.Tellings.{newest_in, sampled}
+use Rattle.recovery.proofs.Frames.{Frame}
+use Rattle.recovery.proofs.Tellings.{newest_in, sampled}
 use Rattle.recovery.proofs.OneMore.{noted, noted_below, noted_last, newest_noted, sampled_more}
 
 -- the rows with the record in its slot are the sample's

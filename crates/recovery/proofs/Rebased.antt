@@ -9,11 +9,11 @@ use Rattle.stores.specs.Meanings.{Meaning}
 use Rattle.layouts.specs.declared.entries.Entry.{Entry}
 use Rattle.cards.specs.Memories.{Memory}
 use Rattle.workings.specs.Refreshes.{refreshed}
-use Rattle.recovery.specs.Frames.{Frame, InLimits, frame}
-use Rattle.recovery.specs.Opens.{Shaped, Open}
-use Rattle.recovery.specs.Stages.{Fit, Counting, Just, Stage}
-use Rattle.recovery.specs.Tellings.{sampled, Tells}
-use Rattle.recovery.proofs.Telling.{newest_none}
+use Rattle.recovery.proofs.Frames.{Frame, InLimits, frame}
+use Rattle.recovery.proofs.Opens.{Shaped, Open}
+use Rattle.recovery.proofs.Standings.{Fit, Counting, Just, Standing}
+use Rattle.recovery.proofs.Tellings.{sampled, Tells}
+use Rattle.recovery.proofs.TellingLaws.{newest_none}
 
 -- the frame with another base
 abbrev pub based : Frame → ℕ → Frame
@@ -49,8 +49,8 @@ Bare f rs rows log = Fit f (Counting f (length rs) 0) (Just rows) log 0
 
 pub open_refreshed : (t : Memory) {base : ℕ} {q : Meaning} {rs : List (List ℕ)} {rows : ℕ → List ℕ} {log : ℕ → Entry} → InLimits (frame base t) → Shaped t → t.head.count ≡ length rs
     → length rs ≤ 4000000000 → ((s : ℕ) → s < 672 → slice_get t.rows s ≡ Some (sampled (frame base t) rs s)) → Tells (frame base t) rs rows log 0
-    → Stage (frame base t) q (Bare (frame base t) rs rows log) (Bare (frame base t) rs rows log) → Open (length rs) q (refreshed t) rs (length rs)
-open_refreshed t {base} {q} {rs} {rows} {log} limits shape count few held tells stage =
+    → Standing (frame base t) q (Bare (frame base t) rs rows log) (Bare (frame base t) rs rows log) → Open (length rs) q (refreshed t) rs (length rs)
+open_refreshed t {base} {q} {rs} {rows} {log} limits shape count few held tells standing =
     let f = frame base t in
     let after = tells_based (length rs) (omega arith) tells in
     record {
@@ -58,11 +58,11 @@ open_refreshed t {base} {q} {rs} {rows} {log} limits shape count few held tells 
       log = log;
       limits = limits_based (length rs) limits;
       rest = record {
-        stage = record {
-          on = stage.on;
-          room = stage.room;
-          stands = λ b x l h. fit_based (length rs) (stage.stands b x l h);
-          reads = λ b x l h. fit_based (length rs) (stage.reads b x l h);
+        standing = record {
+          on = standing.on;
+          room = standing.room;
+          stands = λ b x l h. fit_based (length rs) (standing.stands b x l h);
+          reads = λ b x l h. fit_based (length rs) (standing.reads b x l h);
         };
         counts = record { fits = omega arith; counted = few; early = omega arith; order = omega arith; settled = rw (take_all (length rs) rs (omega arith)) after; all = after };
       };

@@ -12,19 +12,19 @@ use Rattle.workings.specs.Commits.{commit_calls, all_committed}
 use Rattle.workings.specs.Refreshes.{emptied, emptying_calls, refresh_calls, refreshed}
 use Rattle.traces.specs.Traces.{Trace}
 use Rattle.traces.proofs.Traces.{none_made, lists_apart}
-use Rattle.recovery.specs.Frames.{Frame, frame, fields_of}
-use Rattle.recovery.specs.Laws.{AfterRefresh}
-use Rattle.recovery.specs.Opens.{Open}
-use Rattle.recovery.specs.Recoveries.{Safe, Lost, Goes}
-use Rattle.recovery.specs.Stages.{Fit, Counting, Just, Stage}
-use Rattle.recovery.specs.Tellings.{sampled, Tells}
+use Rattle.recovery.proofs.Frames.{Frame, frame, fields_of}
+use Rattle.recovery.proofs.Laws.{AfterRefresh}
+use Rattle.recovery.proofs.Opens.{Open}
+use Rattle.recovery.proofs.Recoveries.{Safe, Lost, Goes}
+use Rattle.recovery.proofs.Standings.{Fit, Counting, Just, Standing}
+use Rattle.recovery.proofs.Tellings.{sampled, Tells}
 use Rattle.recovery.proofs.Cards.{OneOf, rows_safe, emptied_safe}
 use Rattle.recovery.proofs.Commits.{head_long, commit_law}
-use Rattle.recovery.proofs.Fitting.{fit_wider, fit_fewer, fit_head, stage_wider}
+use Rattle.recovery.proofs.Fitting.{fit_wider, fit_fewer, fit_head, standing_wider}
 use Rattle.recovery.proofs.Rebased.{Bare, open_refreshed}
 use Rattle.recovery.proofs.Rewrites.{Stands, Rewritten, rows_steps}
 use Rattle.recovery.proofs.Steps.{goes_none, goes_on, lost_later, Reached, Broken, reached_wider, write_step, flush_step, reached_end, broken_end}
-use Rattle.recovery.proofs.Telling.{tells_rows}
+use Rattle.recovery.proofs.TellingLaws.{tells_rows}
 
 -- what recovers to all records recovers to the settled ones or all
 safe_waiting : {f : Frame} (m : Meaning) {rs : List (List ℕ)} (old : List (List ℕ)) → Safe f m rs rs → Safe f m old rs
@@ -77,11 +77,11 @@ module _ {State : Type 0} (does : State → Call → Response State → Type 0) 
         broken_end does meaning own source f m _ rs rs b
         (λ room w. emptied_safe o.limits (meaning u) room o.rest.counts.counted o.rest.counts.fits o.rest.counts.all (λ a x l st. g a x (w a x l st)))
 
-    bare_open : {u : State} → Stage f (meaning u) (Bare f rs new o.log) (Bare f rs new o.log) → Goes m (meaning u)
+    bare_open : {u : State} → Standing f (meaning u) (Bare f rs new o.log) (Bare f rs new o.log) → Goes m (meaning u)
         → Open (length rs) (meaning u) (refreshed t) rs (length rs) × Goes m (meaning u)
-    bare_open stage goes = (
+    bare_open standing goes = (
       open_refreshed t o.limits (record { rows = o.shape.rows; row = o.shape.row; flags = o.shape.flags; work = o.shape.work }) o.count o.rest.counts.counted o.held
-          (tells_rows f rs o.log o.rest.counts.all.begun) stage,
+          (tells_rows f rs o.log o.rest.counts.all.begun) standing,
       goes,
     )
 
@@ -92,9 +92,9 @@ module _ {State : Type 0} (does : State → Call → Response State → Type 0) 
       let first : Reached does meaning own source (frame base t) (meaning s) (Stands does meaning own source t o) (Rewritten does meaning own source t o 0) (emptying_calls t) r u =
       record {
         next = s;
-        stage = stage_wider (λ b x fit. fit_wider (λ y e. e) (λ i y e. inl e) (omega arith) fit)
-            (λ b x fit. fit_wider (λ y e. e) (λ i y e. ((λ g. absurd (omega arith)), (λ g. e))) (omega arith) fit) o.rest.stage;
-        goes = goes_none o.rest.stage.on;
+        standing = standing_wider (λ b x fit. fit_wider (λ y e. e) (λ i y e. inl e) (omega arith) fit)
+            (λ b x fit. fit_wider (λ y e. e) (λ i y e. ((λ g. absurd (omega arith)), (λ g. e))) (omega arith) fit) o.rest.standing;
+        goes = goes_none o.rest.standing.on;
         rest = h;
       } in
       elim (rows_steps does meaning own source t o (flushes ∷ writes 0 (fields_bytes (emptied t.head)) ∷ flushes ∷ []) (sample_blocks t.head.size) (omega arith) first) [
@@ -119,12 +119,12 @@ module _ {State : Type 0} (does : State → Call → Response State → Type 0) 
       let f : Frame = frame base t in
       let fewer : (b : ℕ) (x : List ℕ) → Fit f (Counting f (length rs) t.head.entries) (Just o.rows) o.log t.head.entries b x → Bare f rs o.rows o.log b x =
       λ b x fit. fit_wider (λ y z. subst (λ (k : ℕ). Counting f (length rs) k y) none z) (λ i y z. z) (omega arith) fit in
-      let stage = stage_wider fewer (λ b x fit. fewer b x (fit_fewer (omega arith) fit)) o.rest.stage in
+      let standing = standing_wider fewer (λ b x fit. fewer b x (fit_fewer (omega arith) fit)) o.rest.standing in
       let told = subst (λ (k : ℕ). Tells f rs o.rows o.log k) none o.rest.counts.all in
       subst (λ (a : Answer). Emptied t o (meaning u) a) (sym e.0)
       (subst (λ (x : State). Open (length rs) (meaning x) (refreshed t) rs (length rs) × Goes (meaning s) (meaning x)) (sym e.1) (
-        open_refreshed t o.limits (record { rows = o.shape.rows; row = o.shape.row; flags = o.shape.flags; work = o.shape.work }) o.count o.rest.counts.counted o.held told stage,
-        goes_none o.rest.stage.on,
+        open_refreshed t o.limits (record { rows = o.shape.rows; row = o.shape.row; flags = o.shape.flags; work = o.shape.work }) o.count o.rest.counts.counted o.held told standing,
+        goes_none o.rest.standing.on,
       ))
 
   emptied_by : (t : Memory) {base : ℕ} {rs : List (List ℕ)} (s u : State) (r : Answer) (b : Bool) → eqb t.head.entries 0 ≡ b → (o : Open base (meaning s) (all_committed t) rs (length rs))

@@ -12,10 +12,10 @@ use Rattle.layouts.specs.Slots.{slot_at}
 use Rattle.cards.specs.Memories.{Memory}
 use Rattle.workings.specs.Commits.{all_committed}
 use Rattle.workings.specs.Refreshes.{of_block, joined, touched, row_writes}
-use Rattle.recovery.specs.Frames.{Frame, frame}
-use Rattle.recovery.specs.Opens.{Open}
-use Rattle.recovery.specs.Stages.{Fit, Counting}
-use Rattle.recovery.specs.Tellings.{newest_in, sampled}
+use Rattle.recovery.proofs.Frames.{Frame, frame}
+use Rattle.recovery.proofs.Opens.{Open}
+use Rattle.recovery.proofs.Standings.{Fit, Counting}
+use Rattle.recovery.proofs.Tellings.{newest_in, sampled}
 use Rattle.recovery.proofs.Cards.{Either}
 use Rattle.recovery.proofs.Fitting.{fit_rows}
 use Rattle.recovery.proofs.Joined.{rows_long, row_here, untouched}

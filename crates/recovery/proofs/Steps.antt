@@ -1,7 +1,6 @@
--- A write and a flush in a trace: the stage that an accepted one reaches, and what a refused one leaves within its sort.
+-- A write and a flush in a trace: the standing that an accepted one reaches, and what a refused one leaves within its sort.
 -- Assumes nothing.
-use Rattle.std.proofs.Common.{◌≡◌, ℕ, ◌<◌, ◌≤◌, Bool, true, false, ◌⊎◌, inl, inr, List, [], ◌∷◌, length, Err, MatchResult, refl, sym, ◌∙◌, subst, arith}
-use Rattle.std.proofs.lemmas.Bool.{true≢false}
+use Rattle.std.proofs.Common.{◌≡◌, ℕ, ◌<◌, ◌≤◌, true, false, ◌⊎◌, inl, inr, List, [], ◌∷◌, length, Err, MatchResult, refl, sym, ◌∙◌, subst, arith}
 use Rattle.faults.specs.Refusals.{fault}
 use Rattle.faults.specs.declared.faults.Fault.{Fault}
 use Rattle.faults.specs.declared.faults.Layer.{Layer}
@@ -9,17 +8,13 @@ use Rattle.faults.specs.declared.faults.Reason.TheVariants.{Off}
 use Rattle.stores.specs.Calls.{Call, Response, writes, flushes}
 use Rattle.stores.specs.Meanings.{Meaning, Sound}
 use Rattle.stores.specs.Outcomes.{Answer}
+use Rattle.stores.proofs.Supplies.{not_lasting}
 use Rattle.traces.specs.Traces.{Trace}
 use Rattle.traces.proofs.Traces.{none_made, write_made, flush_made}
-use Rattle.recovery.specs.Frames.{Frame, frame_blocks}
-use Rattle.recovery.specs.Recoveries.{Safe, Lost, Goes}
-use Rattle.recovery.specs.Stages.{Within, Stage}
-use Rattle.recovery.proofs.Fitting.{wrote_stage, flushed_stage, stage_wider, cut_within, none_within}
-
--- a supply that failed later did not last before
-pub not_lasting : (a b : Bool) → (a ≡ true → b ≡ true) → b ≡ false → a ≡ false
-not_lasting true b h e = absurd (true≢false (sym (h refl) ∙ e))
-not_lasting false b h e = refl
+use Rattle.recovery.proofs.Frames.{Frame, frame_blocks}
+use Rattle.recovery.proofs.Recoveries.{Safe, Lost, Goes}
+use Rattle.recovery.proofs.Standings.{Within, Standing}
+use Rattle.recovery.proofs.Fitting.{wrote_standing, flushed_standing, standing_wider, cut_within, none_within}
 
 pub goes_none : {m : Meaning} → m.on ≡ true → Goes m m
 goes_none on = record { on = on; size = refl; lasts = λ l. l; sound = λ s. s }
@@ -40,10 +35,10 @@ lost_later g h safer = record {
 }
 
 module _ {State : Type 0} (does : State → Call → Response State → Type 0) (meaning : State → Meaning) (own source : Layer) (f : Frame) (m : Meaning) where
-  -- a stage reached by accepted calls, and the calls that are left
+  -- a standing reached by accepted calls, and the calls that are left
   pub record Reached (P Q : ℕ → List ℕ → Type 0) (cs : List Call) (r : Answer) (t : State) : Type 0 where
     pub next : State
-    pub stage : Stage f (meaning next) P Q
+    pub standing : Standing f (meaning next) P Q
     pub goes : Goes m (meaning next)
     pub rest : Trace does meaning own source true next cs r t
 
@@ -61,18 +56,18 @@ module _ {State : Type 0} (does : State → Call → Response State → Type 0) 
 
   pub reached_wider : {P P′ Q Q′ : ℕ → List ℕ → Type 0} {cs : List Call} {r : Answer} {t : State} → ((b : ℕ) (x : List ℕ) → P b x → P′ b x)
       → ((b : ℕ) (x : List ℕ) → Q b x → Q′ b x) → Reached P Q cs r t → Reached P′ Q′ cs r t
-  reached_wider p q h = record { next = h.next; stage = stage_wider p q h.stage; goes = h.goes; rest = h.rest }
+  reached_wider p q h = record { next = h.next; standing = standing_wider p q h.standing; goes = h.goes; rest = h.rest }
 
   pub write_step : {P Q R : ℕ → List ℕ → Type 0} {cs : List Call} {r : Answer} {t : State} (a : ℕ) (bs : List ℕ) → Reached P Q (writes a bs ∷ cs) r t
       → a < frame_blocks f → length bs ≡ 504 → P a bs → ((b : ℕ) (x : List ℕ) → (b ≡ a → ⊥) → Q b x → R b x) → R a bs
       → Reached P R cs r t ⊎ Broken P r t
   write_step {P} {Q} {R} {cs} {r} {t} a bs h l long p g q =
-      let st = h.stage in
+      let st = h.standing in
       let room = st.room in
       elim (write_made does meaning own source true h.next t a bs cs r (omega arith) long st.on h.rest) [
         | inl w ↦ inl (record {
           next = w.next;
-          stage = wrote_stage st w.done p g q;
+          standing = wrote_standing st w.done p g q;
           goes = goes_on h.goes (record { on = w.done.on; size = w.done.size; lasts = w.done.lasts; sound = w.sound refl });
           rest = w.rest;
         })
@@ -91,11 +86,11 @@ module _ {State : Type 0} (does : State → Call → Response State → Type 0) 
 
   pub flush_step : {P Q : ℕ → List ℕ → Type 0} {cs : List Call} {r : Answer} {t : State} → Reached P Q (flushes ∷ cs) r t → Reached Q Q cs r t ⊎ Broken P r t
   flush_step {P} {Q} {cs} {r} {t} h =
-      let st = h.stage in
+      let st = h.standing in
       elim (flush_made does meaning own source true h.next t cs r st.on h.rest) [
         | inl w ↦ inl (record {
           next = w.next;
-          stage = flushed_stage st w.done;
+          standing = flushed_standing st w.done;
           goes = goes_on h.goes (record { on = w.done.on; size = w.done.size; lasts = w.done.lasts; sound = w.sound refl });
           rest = w.rest;
         })
@@ -114,10 +109,10 @@ module _ {State : Type 0} (does : State → Call → Response State → Type 0) 
 
   -- the end of the calls
   pub reached_end : {P Q : ℕ → List ℕ → Type 0} {r : Answer} {t : State} (X : Type 0) (Y : Fault → Type 0) → Reached P Q [] r t
-      → (Stage f (meaning t) P Q → Goes m (meaning t) → X) → MatchResult r (λ done. X) Y
+      → (Standing f (meaning t) P Q → Goes m (meaning t) → X) → MatchResult r (λ done. X) Y
   reached_end {P} {Q} {r} {t} X Y h g =
       let e = none_made does meaning own source true h.next t r h.rest in
-      let st = h.stage in
+      let st = h.standing in
       let goes = h.goes in
       subst (λ (a : Answer). MatchResult a (λ done. X) Y) (sym e.0) (g (rw e.1 st) (rw e.1 goes))
 

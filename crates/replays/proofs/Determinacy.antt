@@ -1,19 +1,20 @@
 -- A stack answers the calls of a scenario in one way. Assumes nothing.
 use Rattle.std.proofs.Common.{◌≡◌, ℕ, Bool, true, false, List, [], ◌∷◌, Result, sym, ◌∙◌, ap}
 use Rattle.faults.specs.declared.faults.Fault.{Fault}
+use Rattle.languages.specs.Transcripts.{AtMostOne}
 use Rattle.stores.specs.Calls as calls
 use Rattle.stores.specs.Calls.{Response, Determined}
 use Rattle.images.specs.Images as images
-use Rattle.images.specs.Images.{image_response}
 use Rattle.benches.specs.Benches as benches
-use Rattle.benches.specs.Benches.{bench_response}
+use Rattle.images.proofs.Determinacy.{image_one}
+use Rattle.benches.proofs.Determinacy.{bench_one}
 use Rattle.mirrors.proofs.Determinacy.{mirror_determined}
 use Rattle.storescript.specs.declared.calls.Call.{Call}
 use Rattle.storescript.specs.declared.calls.Device as device
 use Rattle.storescript.specs.declared.calls.Device.TheVariants.{Image, Bench}
 use Rattle.replays.specs.declared.answers.Answer.{Answer}
 use Rattle.replays.specs.Answers.{told, Answered, Replayed}
-use Rattle.replays.specs.Played.{Plays, PlayedOn, AtMostOne}
+use Rattle.replays.specs.Played.{Plays, PlayedOn}
 
 module _ {S : Type 0} (does : S → calls.Call → Response S → Type 0) (d : Determined does) where
   answered_one : (s : S) (call : Call) (r n : Result Answer Fault) (t v : S) → Answered does s call r t → Answered does s call n v → (r ≡ n) × (t ≡ v)
@@ -31,13 +32,6 @@ module _ {S : Type 0} (does : S → calls.Call → Response S → Type 0) (d : D
 
   plays_one : (s : S) (cs : List Call) → AtMostOne (Plays does s cs)
   plays_one s cs a b h k = replayed_one s cs a b h.0 k.0 h.1 k.1
-
--- an image and a bench say what their equations say
-image_one : Determined (λ v c r. r ≡ image_response v c)
-image_one s c w x h k = h ∙ sym k
-
-bench_one : Determined (λ v c r. r ≡ bench_response v c)
-bench_one s c w x h k = h ∙ sym k
 
 pub played_one : (d : device.Device) (m : Bool) (blocks : ℕ) (fuses choices : List ℕ) (cs : List Call) → AtMostOne (PlayedOn d m blocks fuses choices cs)
 played_one Image false blocks fuses choices cs a b h k = plays_one _ image_one _ cs a b h k

@@ -1,5 +1,6 @@
 ghost use Rattle.std.specs.Prelude.{IfOk};
-ghost use Rattle.replays.specs.Played.{Plays, Played, AtMostOne};
+ghost use Rattle.languages.specs.Transcripts.{AtMostOne};
+ghost use Rattle.replays.specs.Played.{Plays, Played};
 
 use crate::answers::Answer;
 use crate::replaying::replay;

@@ -2,12 +2,10 @@
 use Rattle.std.proofs.Common.{◌≡◌, ◌⊎◌, inl, inr, refl}
 use Rattle.ledgers.specs.declared.calls.Call.{Call}
 use Rattle.ledgers.specs.declared.calls.Call.TheVariants.{Mount, Wake}
-use Rattle.ledgers.specs.declared.calls.Answer.{Answer}
 use Rattle.ledgers.specs.declared.calls.Answer.TheVariants.{OutOfTurn}
 use Rattle.samplers.specs.Views.{View}
 use Rattle.laws.specs.Setups.{Setup}
 use Rattle.laws.specs.Stages.{Went}
-use Rattle.laws.specs.declared.stages.Stage.{Stage}
 use Rattle.laws.specs.declared.stages.Stage.TheVariants.{Waking}
 
 -- a mount or a wake of a sampler that is awake

@@ -1,4 +1,5 @@
--- A store and a kind as what the law of a sampler is said of. Assumes nothing.
+-- A store and a kind as what the law of a sampler is said of, and `AllWent`: calls of a sampler that went one after another.
+-- Assumes nothing.
 use Rattle.std.specs.Prelude.{◌≡◌, ℕ, Bool, List, [], ◌∷◌, Option}
 use Rattle.faults.specs.declared.faults.Layer.{Layer}
 use Rattle.stores.specs.Calls.{Call, Response}
@@ -9,6 +10,7 @@ use Rattle.laws.specs.Setups.{Setup}
 use Rattle.laws.specs.Stages.{Went}
 use Rattle.laws.specs.declared.stages.Stage.{Stage}
 
+-- a store and a kind, by their ghost members
 abbrev pub setup : {S State K : Type 0} → (S → State) → (State → Meaning) → (State → Call → Response State → Type 0) → Layer → Layer → Bool → ℕ → (K → List ℕ)
     → (List ℕ → Option ℕ) → Setup S State K
 setup state meaning does own source steady code bytes wrong = record {

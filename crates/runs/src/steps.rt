@@ -8,7 +8,9 @@ use records::RecordKind;
 use samplers::{Asleep, Awake};
 use stores::SteadyStore;
 
-// A call of a sampler that sleeps. The calls of a waking one are out of turn, and change nothing.
+// A call of a sampler that sleeps. The calls of a waking one are out of turn, and change nothing. Neither this
+// nor the call below is inlined, since LLVM takes a minute longer then for the six samplers of a program that plays nights.
+#[inline(never)]
 fn of_sleeping<S: SteadyStore, K: RecordKind>(
     mut asleep: Asleep<S, K>,
     call: &Call<K>,
@@ -31,6 +33,7 @@ fn of_sleeping<S: SteadyStore, K: RecordKind>(
 }
 
 // A call of a sampler that is awake. Mount and wake are out of turn.
+#[inline(never)]
 fn of_waking<S: SteadyStore, K: RecordKind>(
     mut awake: Awake<S, K>,
     call: &Call<K>,

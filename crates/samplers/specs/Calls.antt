@@ -45,6 +45,7 @@ module _ {S State : Type 0} (state : S → State) (meaning : State → Meaning) 
   FormatsBy code size log_blocks seed v w r (Ok done) = Served code size log_blocks seed v w r
   FormatsBy code size log_blocks seed v w r (Err e) = Untouched v w r e
 
+  -- A FORMAT of a store of this size, with these numbers
   abbrev pub Formats : ℕ → ℕ → ℕ → ℕ → View S → View S → Answer → Type 0
   Formats code size log_blocks seed v w r = FormatsBy code size log_blocks seed v w r (format_test (meaning (state v.store)).size size log_blocks)
 
@@ -56,6 +57,6 @@ Leaves P (Err e) None = P (Err e)
 Leaves P (Err e) (Some t) = ⊥
 
 -- SLOT: a dark sampler refuses, and else its memory answers
-abbrev pub slot_answer : Option Memory → ℕ → Result (List ℕ) Fault
-slot_answer None s = Err (refusal Off 0)
-slot_answer (Some t) s = slot_read t s
+abbrev pub sampler_slot_answer : Option Memory → ℕ → Result (List ℕ) Fault
+sampler_slot_answer None s = Err (refusal Off 0)
+sampler_slot_answer (Some t) s = slot_read t s

@@ -8,7 +8,7 @@ use Rattle.sampling.specs.Draws.{slot_of}
 use Rattle.sampling.proofs.SlotLaws.{slot_early}
 use Rattle.layouts.specs.Heads.{Fields}
 use Rattle.cards.specs.Cards.{filled}
-use Rattle.cards.specs.Memories.{Lawful}
+use Rattle.cards.specs.Memories.{RowsLawful}
 use Rattle.workings.specs.Inserts.{grown}
 
 -- record n + 1 has slot n while the sample fills
@@ -30,12 +30,12 @@ filled_before more i h o e l ne =
     (cases_eq i h.count)
 
 -- a record without a slot
-pub lawful_counted : (wrong : List ℕ → Option ℕ) (h : Fields) (rows : List (List ℕ)) → slot_of h.seed h.size (h.count + 1) ≡ None → Lawful wrong h rows → Lawful wrong (grown 0 h) rows
+pub lawful_counted : (wrong : List ℕ → Option ℕ) (h : Fields) (rows : List (List ℕ)) → slot_of h.seed h.size (h.count + 1) ≡ None → RowsLawful wrong h rows → RowsLawful wrong (grown 0 h) rows
 lawful_counted wrong h rows e before i l = before i (filled_before 0 i h None e l (λ k. cc k))
 
 -- a candidate, whose bytes are a record's
 pub lawful_placed : (wrong : List ℕ → Option ℕ) (h : Fields) (rows : List (List ℕ)) (s : ℕ) (bytes : List ℕ) → slot_of h.seed h.size (h.count + 1) ≡ Some s → s < length rows
-    → wrong bytes ≡ None → Lawful wrong h rows → Lawful wrong (grown 1 h) (set rows s bytes)
+    → wrong bytes ≡ None → RowsLawful wrong h rows → RowsLawful wrong (grown 1 h) (set rows s bytes)
 lawful_placed wrong h rows s bytes e inside right before i l =
     ⊎_elim
     (λ (same : i ≡ s). ap wrong (ap (λ k. get_or (set rows s bytes) k []) same ∙ set_here rows s bytes inside) ∙ right)

@@ -26,11 +26,11 @@ pub struct Sample<K: RecordKind> {
 impl<K: RecordKind> Model for Sample<K> {
     ghost use Rattle.std.specs.Prelude.{◌≡◌, ◌≤◌, List};
     ghost use Rattle.layouts.specs.Heads.{head_fields};
-    ghost use Rattle.cards.specs.Memories.{Memory, Lawful};
+    ghost use Rattle.cards.specs.Memories.{Memory, RowsLawful};
 
     ghost Value = { Memory };
 
     ghost view = { λ t. record { head = head_fields t.head; committed = t.committed; rows = t.rows; logged = t.logged; work = t.work } };
 
-    ghost invariant = { λ t. (t.head.kind ≡ K.CODE) × (t.committed ≤ t.head.entries) × Lawful K.wrong (head_fields t.head) t.rows };
+    ghost invariant = { λ t. (t.head.kind ≡ K.CODE) × (t.committed ≤ t.head.entries) × RowsLawful K.wrong (head_fields t.head) t.rows };
 }

@@ -5,4 +5,4 @@ mod lines;
 mod sums;
 
 pub use lines::{EventWords, MeanLine, OffsetNumbers, SlotLine};
-pub use sums::sum;
+pub use sums::mean;

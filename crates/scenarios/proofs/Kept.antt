@@ -10,7 +10,7 @@ use Rattle.reservoir.specs.declared.reservoirs.Reservoir.{Reservoir}
 use Rattle.sampling.specs.Answers.{insert_answer, slot_answer, counted}
 use Rattle.sampling.proofs.ViewLaws.{insert_map, slot_map, counted_map}
 use Rattle.scenarios.specs.Replies.{slot_reply, record_reply, insert_reply, offered}
-use Rattle.scenarios.specs.Worked.{KeepsFields, said}
+use Rattle.scenarios.specs.Answering.{KeepsFields, said}
 use Rattle.scenarios.specs.declared.answers.Answer.{Answer}
 use Rattle.scenarios.specs.declared.answers.Answer.TheVariants.{Inserted, Found}
 

@@ -15,7 +15,7 @@ use Rattle.sampling.specs.Answers.{refusal, slot_answer}
 use Rattle.sampling.specs.Samples.{sample_at}
 use Rattle.sampling.proofs.ViewLaws.{sample_map}
 use Rattle.scenarios.specs.Replies.{row, rows_below}
-use Rattle.scenarios.specs.Worked.{KeepsFields, row_of}
+use Rattle.scenarios.specs.Answering.{KeepsFields, row_of}
 use Rattle.scenarios.specs.declared.answers.Row.{Row}
 
 -- the row made of a slot's answer

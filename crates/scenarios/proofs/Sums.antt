@@ -5,7 +5,7 @@ use Rattle.std.proofs.lemmas.List.Sums.{sum_by-cons}
 use Rattle.std.specs.List.{sum}
 use Rattle.records.specs.Fields.{nanoseconds_of}
 use Rattle.scenarios.specs.Replies.{sum_of}
-use Rattle.scenarios.specs.Worked.{row_of}
+use Rattle.scenarios.specs.Answering.{row_of}
 use Rattle.scenarios.specs.declared.answers.Row.{Row}
 
 -- a row's nanoseconds

@@ -15,11 +15,12 @@ pub data Reply : Type 0 where
   told : ℕ → List (ℕ × Fields) → ℤ → Reply
   refused : Fault → Reply
 
--- the filled slots below n, ascending, each with its record
+-- a slot with its record, if it is filled
 abbrev pub row : ℕ → Option Fields → List (ℕ × Fields)
 row i None = []
 row i (Some x) = (i, x) ∷ []
 
+-- the filled slots below n, ascending, each with its record
 abbrev pub rows_below : ℕ → ℕ → ℕ → List Fields → List (ℕ × Fields)
 rows_below zero seed size rs = []
 rows_below (suc n) seed size rs = rows_below n seed size rs ++ row n (sample_at seed size rs n)
@@ -33,10 +34,12 @@ abbrev pub sum_of : List (ℕ × Fields) → ℤ
 sum_of [] = pos 0
 sum_of (x ∷ xs) = x.1.2 +ℤ sum_of xs
 
+-- the slot that a record took, if any, or the refusal
 abbrev pub slot_reply : Result (Option ℕ) Fault → Reply
 slot_reply (Ok slot) = inserted slot
 slot_reply (Err f) = refused f
 
+-- the record in a slot, or the refusal
 abbrev pub record_reply : Result Fields Fault → Reply
 record_reply (Ok x) = found x
 record_reply (Err f) = refused f

@@ -1,7 +1,7 @@
 ghost use Rattle.std.specs.Prelude.{◌≡◌, ◌≤◌, map, length, IfOk, Ok, vec_len};
 ghost use Rattle.script.specs.declared.commands.Command.TheVariants.{Report as Asked};
 ghost use Rattle.scenarios.specs.Replies.{sample_rows, sum_of};
-ghost use Rattle.scenarios.specs.Worked.{Replied, OfFields, row_of, said};
+ghost use Rattle.scenarios.specs.Answering.{Replied, OfFields, row_of, said};
 ghost use Rattle.scenarios.specs.declared.answers.Answer.TheVariants.{Told};
 
 use crate::answers::{Report, Row};

@@ -1,6 +1,6 @@
 ghost use Rattle.std.specs.Prelude.{IfOk};
 ghost use Rattle.script.specs.declared.commands.Command.TheVariants.{Insert, Slot};
-ghost use Rattle.scenarios.specs.Worked.{Replied, said};
+ghost use Rattle.scenarios.specs.Answering.{Replied, said};
 
 use crate::answers::Answer;
 use faults::Fault;

@@ -1,4 +1,4 @@
-ghost use Rattle.scenarios.specs.Worked.{Worked};
+ghost use Rattle.scenarios.specs.Answering.{ScenarioAnswered};
 
 use crate::answers::{Answer, Stopped};
 use crate::sessions::Session;
@@ -16,7 +16,7 @@ pub fn work(
     seed: u64,
     commands: &[Command],
 ) -> Result<Vec<Result<Answer, Fault>>, Stopped>
-    ensures { Worked seed size commands.now result }
+    ensures { ScenarioAnswered seed size commands.now result }
 {
     let sample = Reservoir::new(size, seed).map_err(Failure::Because)?;
     let mut session = Session { heap, sample };

@@ -1,7 +1,7 @@
--- The calls that a night makes of the sampler. Assumes nothing.
-use Rattle.std.specs.Prelude.{ℕ, zero, suc, List, [], ◌∷◌, ◌++◌}
+-- The calls that a night makes of the sampler, and whether it is awake after them. Assumes nothing.
+use Rattle.std.specs.Prelude.{ℕ, zero, suc, Bool, true, false, List, [], ◌∷◌, ◌++◌}
 use Rattle.ledgers.specs.declared.calls.Call as declared_call
-use Rattle.ledgers.specs.declared.calls.Call.TheVariants.{Slot}
+use Rattle.ledgers.specs.declared.calls.Call.TheVariants.{Wake, Slot, Close}
 use Rattle.script.specs.declared.cards.Ask.{Ask}
 use Rattle.script.specs.declared.cards.Ask.TheVariants.{Calls, NoSuchRecord, Report}
 
@@ -21,3 +21,9 @@ module _ {K : Type 0} where
   abbrev pub calls_of : ℕ → List (Ask K) → List (declared_call.Call K)
   calls_of size [] = []
   calls_of size (ask ∷ asks) = calls_asked size ask ++ calls_of size asks
+
+  -- whether the sampler is awake after a call: each wake and each close moves it, whatever else comes of the calls
+  abbrev pub awake_after_call : Bool → declared_call.Call K → Bool
+  awake_after_call is_awake Wake = true
+  awake_after_call is_awake Close = false
+  awake_after_call is_awake other = is_awake

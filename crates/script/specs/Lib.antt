@@ -2,4 +2,4 @@ pub mod Texts
 pub mod Plans
 pub mod Shown
 pub mod Calls
-pub mod Told
+pub mod Outcomes

@@ -37,27 +37,31 @@ pub record CardPlan (O E : Type 0) : Type 0 where
   pub fuses : List ℕ
   pub choices : List ℕ
   pub nights : NightPlans O E
-  pub printed : Bool
+  pub ends_with_memory : Bool
 
 -- a scenario as the script has it
 pub data Plan (O E : Type 0) : Type 0 where
   of_reservoir : ReservoirPlan → Plan O E
   of_card : CardPlan O E → Plan O E
 
+-- what a night holds
 abbrev pub night_plan : {K : Type 0} → Night K → NightPlan K
 night_plan n = record { size = n.size; log_blocks = n.log_blocks; seed = n.seed; asks = vec_items n.asks }
 
+-- what nights hold, by their kind
 abbrev pub night_plans : declared_nights.Nights → NightPlans Offset Event
 night_plans (Offsets nights) = of_offsets (map night_plan (vec_items nights))
 night_plans (Events nights) = of_events (map night_plan (vec_items nights))
 
+-- what a card scenario holds
 abbrev pub card_plan : CardScenario → CardPlan Offset Event
-card_plan s = record { stack = s.stack; fuses = vec_items s.fuses; choices = vec_items s.choices; nights = night_plans s.nights; printed = s.printed }
+card_plan s = record { stack = s.stack; fuses = vec_items s.fuses; choices = vec_items s.choices; nights = night_plans s.nights; ends_with_memory = s.ends_with_memory }
 
+-- what a scenario of a reservoir holds
 abbrev pub reservoir_plan : ReservoirScenario → ReservoirPlan
 reservoir_plan s = record { size = s.size; seed = s.seed; commands = vec_items s.commands }
 
--- what a scenario holds
+-- what any scenario holds
 abbrev pub plan_of : Scenario → Plan Offset Event
 plan_of (Reservoir s) = of_reservoir (reservoir_plan s)
 plan_of (Card s) = of_card (card_plan s)

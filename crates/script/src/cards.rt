@@ -54,5 +54,5 @@ pub struct CardScenario {
     pub choices: Vec<u8>,
     pub nights: Nights,
     // Whether it ends with the device's memory.
-    pub printed: bool,
+    pub ends_with_memory: bool,
 }

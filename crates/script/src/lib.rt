@@ -10,4 +10,5 @@ mod scenarios;
 pub use cards::{Ask, CardScenario, Night, Nights, Stack, Steady};
 pub use commands::{Command, ReservoirScenario};
 pub use expectations::{Expected, Unread};
+pub use nights::awake_after_call;
 pub use scenarios::Scenario;

@@ -1,9 +1,20 @@
 ghost use Rattle.std.specs.Prelude.{◌≡◌, ◌++◌, IfOk};
-ghost use Rattle.script.specs.Calls.{slot_calls, calls_asked, calls_of};
+ghost use Rattle.script.specs.Calls.{slot_calls, calls_asked, calls_of, awake_after_call};
 
 use crate::cards::{Ask, Night};
 use ledgers::Call;
 use std::alloc::{AllocError, Global};
+
+// Whether a sampler is awake after a call, whatever else comes of it.
+pub fn awake_after_call<K>(is_awake: bool, call: &Call<K>) -> bool
+    ensures { result ≡ awake_after_call is_awake call.now }
+{
+    match call {
+        Call::Wake => true,
+        Call::Close => false,
+        _ => is_awake,
+    }
+}
 
 // Adds a look into every slot.
 fn add_slots<K: Copy + Drop>(size: u16, calls: &mut Vec<Call<K>>) -> Result<(), AllocError>

@@ -2,11 +2,9 @@ ghost use Rattle.std.specs.Prelude.{◌≡◌};
 ghost use Rattle.storeparsing.specs.Stacks.{device_named, stack_of, read_stack};
 ghost use Rattle.words.specs.Words.{texts};
 
+use stores::BLOCK_LIMIT;
 use storescript::{Device, Expected, Stack};
 use words::number_within;
-
-// As many blocks as a store may have.
-const BLOCKS_AT_MOST: u32 = 65_536;
 
 // The device that a word names.
 fn device(word: &str) -> Option<Device>
@@ -24,7 +22,7 @@ fn on_device(mirrored: bool, name: &str, size: &str) -> Result<Stack, Expected>
     ensures { result ≡ stack_of mirrored name.now size.now }
 {
     let device = device(name).ok_or(Expected::StackWords)?;
-    let blocks = number_within(size, BLOCKS_AT_MOST).ok_or(Expected::Blocks)?;
+    let blocks = number_within(size, BLOCK_LIMIT).ok_or(Expected::Blocks)?;
     Ok(Stack {
         device,
         mirrored,

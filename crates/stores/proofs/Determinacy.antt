@@ -1,8 +1,13 @@
 -- Calls that are made in order of a store that says one thing at most to each. Assumes nothing.
-use Rattle.std.proofs.Common.{◌≡◌, List, [], ◌∷◌, Ok, Err, Result, sym, ◌∙◌}
+use Rattle.std.proofs.Common.{◌≡◌, ℕ, List, [], ◌∷◌, length, Ok, Err, Result, sym, ◌∙◌}
 use Rattle.faults.specs.declared.faults.Fault.{Fault}
 use Rattle.stores.specs.Outcomes.{Answer}
-use Rattle.stores.specs.Calls.{Call, Response, Onward, InOrder, Determined}
+use Rattle.stores.specs.Calls.{Call, Response, reads, Onward, InOrder, Determined}
+
+-- to reads of one block a store says one thing, and it leaves one thing, whatever their buffers held, if these are of one length
+abbrev pub Blind : {S : Type 0} → (S → Call → Response S → Type 0) → Type 0
+Blind {S} does =
+    (s : S) (b : ℕ) (p q : List ℕ) (w v : Response S) → length p ≡ length q → does s (reads b p) w → does s (reads b q) v → (w.answer ≡ v.answer) × (w.next ≡ v.next)
 
 -- what goes on from one state leads to one end, if what follows does
 pub onward_one : {S X : Type 0} (q : Result X Fault) (u : S) (A B : X → Type 0) (r n : Answer) (t v : S) → Onward q u A r t → Onward q u B n v → ((x : X) → A x → B x → (r ≡ n) × (t ≡ v)) → (r ≡ n) × (t ≡ v)

@@ -1,7 +1,7 @@
 // A whole script of store calls, from its text to the text of all that it is answered.
 #![tactic(auto)]
 
-ghost use Rattle.replays.specs.Played.{AtMostOne};
+ghost use Rattle.languages.specs.Transcripts.{AtMostOne};
 ghost use Rattle.storetranscripts.specs.Transcripts.{Transcript, Transcribed};
 
 use std::alloc::Global;

@@ -1,7 +1,8 @@
 ghost use Rattle.std.specs.Prelude.{◌≡◌, ◌++◌, ◌∷◌, [], string_bytes, Some};
+ghost use Rattle.languages.specs.Transcripts.{AddsLines};
 ghost use Rattle.storeparsing.specs.Scripts.{plan_of};
 ghost use Rattle.storetranscripts.specs.Lines.{answers_text};
-ghost use Rattle.storetranscripts.specs.Transcripts.{Goes};
+ghost use Rattle.storetranscripts.specs.Transcripts.{Lines};
 
 use crate::lines::Said;
 use faults::Fault;
@@ -30,15 +31,15 @@ impl fmt::Display for Answered<'_> {
 }
 
 // Plays a scenario and writes its lines. Only a want of memory can end that.
-pub(crate) fn scenario(heap: Global, out: &mut String, told: Scenario) -> Result<(), Unread>
-    ensures { Goes (string_bytes out.old) (plan_of told) (string_bytes out.new) result }
+pub(crate) fn scenario(heap: Global, out: &mut String, scenario: Scenario) -> Result<(), Unread>
+    ensures { AddsLines Lines (string_bytes out.old) (plan_of scenario) (string_bytes out.new) result }
 {
     let Scenario {
         stack,
         fuses,
         choices,
         calls,
-    } = told;
+    } = scenario;
     let answers = play(heap, stack, fuses, choices, calls.as_slice())?;
     let calls = calls.as_slice();
     let answers = answers.as_slice();

@@ -4,7 +4,7 @@ use Rattle.std.specs.List.{flat_map, zip}
 use Rattle.std.proofs.lemmas.List.Folds.{flat_map-map}
 use Rattle.faults.specs.declared.faults.Fault.{Fault}
 use Rattle.printing.specs.Lines.{reply_text}
-use Rattle.scenarios.specs.Worked.{said}
+use Rattle.scenarios.specs.Answering.{said}
 use Rattle.scenarios.specs.declared.answers.Answer.{Answer}
 use Rattle.script.specs.declared.commands.Command.{Command}
 use Rattle.transcripts.specs.Transcripts.{answers_text}

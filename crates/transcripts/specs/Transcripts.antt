@@ -1,13 +1,14 @@
 -- What a script is answered, from its text to the text that is printed. Assumes nothing.
-use Rattle.std.specs.Prelude.{◌≡◌, ℕ, cond, List, [], ◌∷◌, ◌++◌, map, Ok, Err, string_bytes, codes, Result, String}
+use Rattle.std.specs.Prelude.{◌≡◌, ℕ, cond, List, [], ◌++◌, map, Ok, codes, Result, String}
 use Rattle.std.specs.List.{flat_map, zip}
 use Rattle.failures.specs.declared.Failure.{Failure}
-use Rattle.failures.specs.declared.Failure.TheVariants.{Because, Memory}
 use Rattle.faults.specs.Texts.{refusal_text}
 use Rattle.faults.specs.declared.faults.Fault.{Fault}
 use Rattle.faults.specs.declared.faults.Reason.TheVariants.{OutOfLimits}
 use Rattle.sampling.specs.Answers.{is_size, refusal}
 use Rattle.script.specs.declared.commands.Command.{Command}
+use Rattle.languages.specs.Transcripts as any
+use Rattle.languages.specs.Transcripts.{Printed}
 use Rattle.languages.specs.declared.bad_lines.BadLine.{BadLine}
 use Rattle.script.specs.declared.expectations.Expected.{Expected}
 use Rattle.parsing.specs.Scripts.{read_script}
@@ -16,7 +17,7 @@ use Rattle.records.specs.Offsets.{offset_fields}
 use Rattle.records.specs.declared.events.Event.{Event}
 use Rattle.records.specs.declared.offsets.Offset.{Offset}
 use Rattle.script.specs.Plans.{Plan, of_reservoir, of_card}
-use Rattle.script.specs.Shown.{shown_by}
+use Rattle.script.specs.Shown.{plan_shown}
 use Rattle.transcripts.specs.Cards.{CardLines}
 use Rattle.scenarios.specs.Replies.{Reply, replies}
 use Rattle.printing.specs.Lines.{name_of, reply_text}
@@ -44,23 +45,10 @@ abbrev pub Lines : Plan Offset Event → List ℕ → Type 0
 Lines (of_reservoir p) text = text ≡ scenario_text p.size p.seed p.commands
 Lines (of_card p) text = CardLines p text
 
--- the lines of these scenarios, one after another
-unfoldable pub Printed : List (Plan Offset Event) → List ℕ → Type 0
-Printed [] text = text ≡ []
-Printed (p ∷ ps) text = (here rest : List ℕ) × Lines p here × Printed ps rest × (text ≡ here ++ rest)
-
 -- WHAT IS PRINTED OF A SCRIPT that can be read
 abbrev pub Transcript : List ℕ → List ℕ → Type 0
-Transcript script text = (plans : List (Plan Offset Event)) × (read_script script ≡ Ok (map (shown_by offset_fields event_fields) plans)) × Printed plans text
+Transcript script text = (plans : List (Plan Offset Event)) × (read_script script ≡ Ok (map (plan_shown offset_fields event_fields) plans)) × Printed Lines plans text
 
--- r is what a script is answered: the text to print, or its first bad line; a want of memory says nothing of it
+-- r is what a script is answered; a want of memory says nothing of it
 abbrev pub Transcribed : {Z : Type 0} → List ℕ → Result (String Z) (Failure (BadLine Expected)) → Type 0
-Transcribed script (Ok out) = Transcript script (string_bytes out)
-Transcribed script (Err (Because bad)) = read_script script ≡ Err bad
-Transcribed script (Err Memory) = Unit {0}
-
--- a scenario's lines come behind what was written; only a want of memory can end that
-abbrev pub Goes : List ℕ → Plan Offset Event → List ℕ → Result (Unit {0}) (Failure (BadLine Expected)) → Type 0
-Goes before p after (Ok done) = (here : List ℕ) × Lines p here × (after ≡ before ++ here)
-Goes before p after (Err (Because bad)) = ⊥
-Goes before p after (Err Memory) = Unit {0}
+Transcribed script r = any.Transcribed read_script Transcript script r

@@ -2,8 +2,9 @@
 #![tactic(auto)]
 
 ghost use Rattle.std.specs.Prelude.{string_bytes};
+ghost use Rattle.languages.specs.Transcripts.{AddsLines, AtMostOne};
 ghost use Rattle.script.specs.Plans.{plan_of};
-ghost use Rattle.transcripts.specs.Transcripts.{Goes, Transcribed};
+ghost use Rattle.transcripts.specs.Transcripts.{Lines, Transcript, Transcribed};
 
 use parsing::parse;
 use script::{Scenario, Unread};
@@ -13,10 +14,10 @@ mod playing;
 mod writing;
 
 // Works a scenario and writes its lines.
-fn scenario(heap: Global, out: &mut String, told: Scenario) -> Result<(), Unread>
-    ensures { Goes (string_bytes out.old) (plan_of told) (string_bytes out.new) result }
+fn write_scenario(heap: Global, out: &mut String, scenario: Scenario) -> Result<(), Unread>
+    ensures { AddsLines Lines (string_bytes out.old) (plan_of scenario) (string_bytes out.new) result }
 {
-    match told {
+    match scenario {
         Scenario::Reservoir(reservoir) => writing::reservoir(heap, out, &reservoir)?,
         Scenario::Card(card) => playing::card(heap, out, card)?,
     }
@@ -26,12 +27,13 @@ fn scenario(heap: Global, out: &mut String, told: Scenario) -> Result<(), Unread
 // Reads a script whole, then works its scenarios in order and writes what each asks for. A script with a bad line is not
 // worked at all.
 pub fn transcript(heap: Global, script: &str) -> Result<String, Unread>
-    ensures { Transcribed script.now result }
+    ensures text { Transcribed script.now result }
+    ensures determined { AtMostOne (Transcript script.now) }
 {
     let scenarios = parse(heap, script)?;
     let mut out = String::new(heap);
-    for told in scenarios {
-        scenario(heap, &mut out, told)?;
+    for scenario in scenarios {
+        write_scenario(heap, &mut out, scenario)?;
     }
     Ok(out)
 }

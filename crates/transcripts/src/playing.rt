@@ -20,25 +20,25 @@ fn span(steady: Steady) -> usize
 }
 
 // Plays nights and writes their lines. The device's memory is what they leave.
-fn nights(
+fn write_nights(
     heap: Global,
     out: &mut String,
     stack: Stack,
     fuses: Vec<u32>,
     choices: Vec<u8>,
-    told: Nights,
+    nights: Nights,
 ) -> Result<Vec<u8>, AllocError>
-    ensures { IfOk result (λ left. (here : List ℕ) × NightLines stack fuses.items choices.items (night_plans told) here left.items × (string_bytes out.new ≡ string_bytes out.old ++ here)) }
+    ensures { IfOk result (λ left. (here : List ℕ) × NightLines stack fuses.items choices.items (night_plans nights) here left.items × (string_bytes out.new ≡ string_bytes out.old ++ here)) }
 {
-    match told {
+    match nights {
         Nights::Offsets(nights) => {
-            let Played { answers, memory } = play(heap, stack, fuses, choices, &nights)?;
-            offset_nights(heap, out, &nights, &answers)?;
+            let Played { outcomes, memory } = play(heap, stack, fuses, choices, &nights)?;
+            offset_nights(heap, out, &nights, &outcomes)?;
             Ok(memory)
         }
         Nights::Events(nights) => {
-            let Played { answers, memory } = play(heap, stack, fuses, choices, &nights)?;
-            event_nights(heap, out, &nights, &answers)?;
+            let Played { outcomes, memory } = play(heap, stack, fuses, choices, &nights)?;
+            event_nights(heap, out, &nights, &outcomes)?;
             Ok(memory)
         }
     }
@@ -47,29 +47,29 @@ fn nights(
 // Writes the device's memory, where the script asks for it.
 fn write_left(
     out: &mut String,
-    printed: bool,
+    is_asked: bool,
     steady: Steady,
     left: &[u8],
 ) -> Result<(), AllocError>
-    ensures { IfOk result (λ done. string_bytes out.new ≡ string_bytes out.old ++ cond printed (memory_text (span steady) left.now) []) }
+    ensures { IfOk result (λ done. string_bytes out.new ≡ string_bytes out.old ++ cond is_asked (memory_text (span steady) left.now) []) }
 {
-    if printed {
+    if is_asked {
         memory(out, span(steady), left)?;
     }
     Ok(())
 }
 
 // Plays a card scenario and writes its lines.
-pub(crate) fn card(heap: Global, out: &mut String, told: CardScenario) -> Result<(), AllocError>
-    ensures { IfOk result (λ done. (here : List ℕ) × CardLines (card_plan told) here × (string_bytes out.new ≡ string_bytes out.old ++ here)) }
+pub(crate) fn card(heap: Global, out: &mut String, scenario: CardScenario) -> Result<(), AllocError>
+    ensures { IfOk result (λ done. (here : List ℕ) × CardLines (card_plan scenario) here × (string_bytes out.new ≡ string_bytes out.old ++ here)) }
 {
     let CardScenario {
         stack,
         fuses,
         choices,
-        nights: told,
-        printed,
-    } = told;
-    let left = nights(heap, out, stack, fuses, choices, told)?;
-    write_left(out, printed, stack.steady, &left)
+        nights,
+        ends_with_memory,
+    } = scenario;
+    let left = write_nights(heap, out, stack, fuses, choices, nights)?;
+    write_left(out, ends_with_memory, stack.steady, &left)
 }

@@ -1,6 +1,6 @@
 ghost use Rattle.std.specs.Prelude.{◌++◌, map, string_bytes, Ok, Some};
 ghost use Rattle.failures.specs.Answers.{UnlessMemory};
-ghost use Rattle.scenarios.specs.Worked.{said};
+ghost use Rattle.scenarios.specs.Answering.{said};
 ghost use Rattle.transcripts.specs.Transcripts.{answers_text, skipped_text, scenario_text};
 
 use failures::Failure;

@@ -48,6 +48,7 @@ abbrev pub InsertsBy : Answer → Memory → List ℕ → Result (Option ℕ) Fa
 InsertsBy (Ok done) t bytes r u = (r ≡ Ok (next_slot t)) × (u ≡ inserted t (next_slot t) bytes)
 InsertsBy (Err e) t bytes r u = (r ≡ Err e) × (u ≡ t)
 
+-- by the tests of this memory
 abbrev pub Inserts : Memory → List ℕ → Result (Option ℕ) Fault → Memory → Type 0
 Inserts t bytes r u = InsertsBy (insert_test t) t bytes r u
 

@@ -21,10 +21,13 @@ zero_whole n b l e =
     let whole_is : content (replicate n 0) b ≡ whole (take 504 (drop (505 * b) (replicate n 0))) = cond-true _ _ _ (eq-eqb _ 0 zero) in
     cc (e, whole_is)
 
-bench_sound : (blocks : ℕ) (fuses choices : List ℕ) → Sound (benches.meaning_of (zero_bench blocks fuses choices))
-bench_sound blocks fuses choices b h stands =
+zeros_sound : (blocks : ℕ) (fuses choices : List ℕ) → Sound (benches.meaning_of (zero_bench blocks fuses choices))
+zeros_sound blocks fuses choices b h stands =
     let long : length {A = ℕ} (replicate (505 * blocks) 0) ≡ 505 * blocks = length-replicate (505 * blocks) 0 in
     ⊎_elim (λ e. zero_whole (505 * blocks) b (omega (arith, long)) e) (λ held. held) stands
+
+pub bench_sound : (v : Contents) (blocks : ℕ) (fuses choices : List ℕ) → v ≡ zero_bench blocks fuses choices → Sound (benches.meaning_of v)
+bench_sound v blocks fuses choices e = subst (λ (w : Contents). Sound (benches.meaning_of w)) (sym e) (zeros_sound blocks fuses choices)
 
 -- of two copies that read torn, the first is torn
 first_torn : (x y : Content) → torn ≡ either x y → x ≡ torn
@@ -35,7 +38,3 @@ first_torn torn y e = refl
 pub mirror_sound : (on : Bool) (m : Meaning) → Sound m → Sound (mirror_meaning on m)
 mirror_sound on m sound b h copies =
     sound b (omega arith) (rw (first_torn copies.first copies.second copies.is) at copies.at_first)
-
-pub mirrored_bench_sound : (on : Bool) (v : Contents) (blocks : ℕ) (fuses choices : List ℕ) → v ≡ zero_bench blocks fuses choices → Sound (mirror_meaning on (benches.meaning_of v))
-mirrored_bench_sound on v blocks fuses choices e =
-    mirror_sound on (benches.meaning_of v) (subst (λ (w : Contents). Sound (benches.meaning_of w)) (sym e) (bench_sound blocks fuses choices))

@@ -17,6 +17,6 @@ zero_bench blocks fuses choices = record { mem = replicate (505 * blocks) 0; hel
 abbrev pub off_over : {S : Type 0} → S → View S
 off_over below = record { below = below; on = false }
 
--- a mirror, by what `state` sees of the store below
-abbrev pub seen : {S T : Type 0} → (S → T) → View S → View T
-seen state mirror = record { below = state mirror.below; on = mirror.on }
+-- what is seen of a mirror, where `state` sees the store below it
+abbrev pub mirror_seen : {S T : Type 0} → (S → T) → View S → View T
+mirror_seen state mirror = record { below = state mirror.below; on = mirror.on }

@@ -1,9 +1,10 @@
-ghost use Rattle.std.specs.Prelude.{◌≡◌, false};
+ghost use Rattle.std.specs.Prelude.{◌≡◌, ℕ, false};
+ghost use Rattle.std.specs.Global.{Vec};
 ghost use Rattle.faults.specs.declared.faults.Layer.TheVariants.{Device};
 ghost use Rattle.stores.specs.Meanings.{Steadily};
 ghost use Rattle.stores.specs.Outcomes.{ReadOutcome, WriteOutcome, FlushOutcome, RestartOutcome};
 ghost use Rattle.stores.specs.Calls.{reads, writes, flushes, restarts, response};
-ghost use Rattle.benches.specs.Benches.{meaning_of, bench_response, Made};
+ghost use Rattle.benches.specs.Benches.{meaning_of, bench_response, bench_does, Made};
 ghost use Rattle.benches.specs.Views.{Contents, contents_of, allocation_of};
 ghost use Rattle.benches.specs.Lawful.{bench_lawful};
 
@@ -42,9 +43,11 @@ impl Bench {
 
     // The memory that was given, with what is settled in it. Held writes are lost, as in a cut that keeps none of them.
     // A method as std's `into_bytes`, and no `From`: the name says what is left.
+    #[tactic(auto, using(crate::specs::Views::same_vec))]
     pub fn into_bytes(self) -> Vec<u8>
         ensures items { result.items ≡ self.mem }
         ensures allocation { allocation_of result ≡ self.allocation }
+        ensures same { (v : Vec ℕ) → allocation_of v ≡ self.allocation → v.items ≡ self.mem → result ≡ v }
     {
         let Bench { disk, .. } = self;
         disk.into_bytes()
@@ -59,7 +62,7 @@ impl Store for Bench {
 
     ghost meaning = { meaning_of };
 
-    ghost does = { λ v c r. r ≡ bench_response v c };
+    ghost does = { bench_does };
 
     ghost own = { Device };
 

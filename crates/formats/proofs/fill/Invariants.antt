@@ -1,7 +1,8 @@
 use Rattle.std.proofs.Common.{Ok}
 use Rattle.stores.specs.Calls.{InOrder}
 use Rattle.stores.specs.Meanings.{Steadily}
-use Rattle.formats.specs.Fills.{fill_writes, Unsettled}
+use Rattle.formats.specs.Fills.{fill_writes}
+use Rattle.formats.proofs.Fills.{Unsettled}
 use Rattle.formats.proofs.fill.Given as goal
 
 abbrev pub invariant-loop-i : goal.invariant-loop-i

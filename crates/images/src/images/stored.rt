@@ -4,7 +4,7 @@ ghost use Rattle.faults.specs.declared.faults.Layer.TheVariants.{Device};
 ghost use Rattle.stores.specs.Meanings.{Steadily};
 ghost use Rattle.stores.specs.Outcomes.{ReadOutcome, WriteOutcome, FlushOutcome, RestartOutcome};
 ghost use Rattle.stores.specs.Calls.{reads, writes, flushes, restarts, response};
-ghost use Rattle.images.specs.Images.{View, view_of, meaning_of, image_response, memory_after, Made};
+ghost use Rattle.images.specs.Images.{View, view_of, meaning_of, image_response, image_does, memory_after, Made};
 ghost use Rattle.images.specs.Blocks.{image_lawful};
 
 use crate::images::Image;
@@ -36,7 +36,7 @@ impl Store for Image {
 
     ghost meaning = { meaning_of };
 
-    ghost does = { λ v c r. r ≡ image_response v c };
+    ghost does = { image_does };
 
     ghost own = { Device };
 

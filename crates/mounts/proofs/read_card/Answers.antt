@@ -4,7 +4,7 @@ use Rattle.stores.proofs.Sameness.{same_trans}
 use Rattle.layouts.specs.Heads.{head_fields}
 use Rattle.cards.specs.Cards.{Card}
 use Rattle.cards.proofs.Mounting.{remembered, lawful, accepted}
-use Rattle.mounts.specs.Parts.{Holds}
+use Rattle.mounts.specs.Parts.{ShowsWithRoom}
 use Rattle.mounts.proofs.Parts.{shows_still, holds_still}
 use Rattle.mounts.proofs.CardCalls.{shown, head_refused, log_refused, slots_refused, slots_accepted}
 use Rattle.mounts.proofs.read_card.Goals as goal
@@ -26,7 +26,7 @@ returns-in_err-log-clause-calls g c =
     let card : Card = λ b. m.reads b in
     let shows = shown m c.requires in
     let head = c.in_ok-head.ensures.outcome card shows in
-    let holds : Holds k h card = record { shows = shows_still m k head.0 card shows; room = c.in_ok-head.ensures.head.1 } in
+    let holds : ShowsWithRoom k h card = record { shows = shows_still m k head.0 card shows; room = c.in_ok-head.ensures.head.1 } in
     rw (p.1, p.2) (log_refused g.S.Store.does g.S.Store.own g.K.RecordKind.CODE g.K.RecordKind.wrong m.size card _ _ h _ head.1 (c.in_ok-head.ensures.calls card shows) _ _ (c.in_err-log.ensures.calls card holds))
 
 pub returns-in_err-read_slots-clause-calls : goal.returns-in_err-read_slots-clause-calls
@@ -39,7 +39,7 @@ returns-in_err-read_slots-clause-calls g c =
     let card : Card = λ b. m.reads b in
     let shows = shown m c.requires in
     let head = c.in_ok-head.ensures.outcome card shows in
-    let holds : Holds k h card = record { shows = shows_still m k head.0 card shows; room = c.in_ok-head.ensures.head.1 } in
+    let holds : ShowsWithRoom k h card = record { shows = shows_still m k head.0 card shows; room = c.in_ok-head.ensures.head.1 } in
     let log = c.in_ok-log.ensures.outcome card holds in
     let slots = c.in_err-read_slots.ensures.calls card (holds_still k l log.0 h card holds) log.1.flag log.1.row in
     rw (p.1, p.2)
@@ -54,7 +54,7 @@ invariant_of-result g c =
     let card : Card = λ b. m.reads b in
     let shows = shown m c.requires in
     let head = c.in_ok-head.ensures.outcome card shows in
-    let holds : Holds k h card = record { shows = shows_still m k head.0 card shows; room = c.in_ok-head.ensures.head.1 } in
+    let holds : ShowsWithRoom k h card = record { shows = shows_still m k head.0 card shows; room = c.in_ok-head.ensures.head.1 } in
     let log = c.in_ok-log.ensures.outcome card holds in
     let rows = c.in_ok-read_slots.ensures.outcome card (holds_still k l log.0 h card holds) log.1.flag log.1.row in
     let most = c.in_ok-head.head.shape.most in
@@ -71,7 +71,7 @@ returns-clause-outcome g c = record {
       let wrong = g.K.RecordKind.wrong in
       let h = head_fields c.in_ok-head.head in
       let head = c.in_ok-head.ensures.outcome card shows in
-      let holds : Holds k h card = record { shows = shows_still m k head.0 card shows; room = c.in_ok-head.ensures.head.1 } in
+      let holds : ShowsWithRoom k h card = record { shows = shows_still m k head.0 card shows; room = c.in_ok-head.ensures.head.1 } in
       let log = c.in_ok-log.ensures.outcome card holds in
       let rows = c.in_ok-read_slots.ensures.outcome card (holds_still k l log.0 h card holds) log.1.flag log.1.row in
       let read = c.in_ok-log.log in
@@ -89,7 +89,7 @@ returns-clause-calls g c =
     let card : Card = λ b. m.reads b in
     let shows = shown m c.requires in
     let head = c.in_ok-head.ensures.outcome card shows in
-    let holds : Holds k h card = record { shows = shows_still m k head.0 card shows; room = c.in_ok-head.ensures.head.1 } in
+    let holds : ShowsWithRoom k h card = record { shows = shows_still m k head.0 card shows; room = c.in_ok-head.ensures.head.1 } in
     let log = c.in_ok-log.ensures.outcome card holds in
     let slots = c.in_ok-read_slots.ensures.calls card (holds_still k l log.0 h card holds) log.1.flag log.1.row in
     slots_accepted g.S.Store.does g.S.Store.own g.K.RecordKind.CODE g.K.RecordKind.wrong m.size card _ _ h _ head.1 (c.in_ok-head.ensures.calls card shows) _ log.1.right _ (c.in_ok-log.ensures.calls card holds) _ _ slots

@@ -2,7 +2,7 @@ ghost use Rattle.std.specs.Prelude.{◌≡◌, Option};
 ghost use Rattle.std.specs.Option.{option_copied};
 ghost use Rattle.records.specs.Reading.{shown_as};
 ghost use Rattle.cards.specs.Memories.{Memory};
-ghost use Rattle.samplers.specs.Calls.{knows_only, slot_answer};
+ghost use Rattle.samplers.specs.Calls.{knows_only, sampler_slot_answer};
 
 use crate::asleep::Asleep;
 use crate::awake::Awake;
@@ -30,7 +30,7 @@ impl<S: SteadyStore, K: RecordKind> Awake<S, K> {
 
     // The record in a slot. It is answered from memory: no block is read.
     pub fn slot(&self, slot: u16) -> Result<K, Fault>
-        ensures { shown_as K.bytes result ≡ slot_answer self.now.sample slot }
+        ensures { shown_as K.bytes result ≡ sampler_slot_answer self.now.sample slot }
     {
         match &self.sample {
             Some(sample) => sample.slot(slot),

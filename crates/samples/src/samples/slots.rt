@@ -39,6 +39,7 @@ impl<K: RecordKind> Sample<K> {
     // How many records are counted.
     pub fn count(&self) -> u32
         ensures value { result ≡ self.now.head.count }
+        // The lengths of the arrays are said here, where a mount reads the count.
         ensures arrays { Arrays self.now }
     {
         self.head.count

@@ -2,9 +2,11 @@ use Rattle.std.proofs.Common.{◌≡◌, [], ◌∷◌, map, vec_items, string_b
 use Rattle.std.proofs.lemmas.List.{map-append, map-id}
 use Rattle.std.proofs.lemmas.Iterator.Adapters.{YieldsList-from_vec}
 use Rattle.std.proofs.lemmas.Iterator.Consumers.{YieldsList-end}
+use Rattle.languages.specs.Transcripts.{Printed}
+use Rattle.languages.proofs.Printings.{one_more}
 use Rattle.storeparsing.specs.Scripts.{plan_of}
-use Rattle.storetranscripts.specs.Transcripts.{Printed}
-use Rattle.storetranscripts.proofs.Texts.{one_more, transcript_one}
+use Rattle.storetranscripts.specs.Transcripts.{Lines}
+use Rattle.storetranscripts.proofs.Texts.{transcript_one}
 use Rattle.storetranscripts.proofs.transcript.Goals as goal
 
 pub loop-scenario-init : goal.loop-scenario-init
@@ -15,7 +17,7 @@ pub loop-scenario-preserved : goal.loop-scenario-preserved
 loop-scenario-preserved c =
     let said = c.in_ok-scenario.ensures in
     rw (map-append plan_of c.loop-scenario.yielded (c.in-Some.scenario ∷ []), said.2)
-    (one_more (map plan_of c.loop-scenario.yielded) (plan_of c.in-Some.scenario) (string_bytes c.loop-scenario.out) said.0 c.loop-scenario.invariant said.1)
+    (one_more Lines (map plan_of c.loop-scenario.yielded) (plan_of c.in-Some.scenario) (string_bytes c.loop-scenario.out) said.0 c.loop-scenario.invariant said.1)
 
 pub returns-in_err-scenarios-clause-determined : goal.returns-in_err-scenarios-clause-determined
 returns-in_err-scenarios-clause-determined c = transcript_one c.args.script.now

@@ -1,7 +1,8 @@
 use Rattle.std.proofs.Common.{map, string_bytes}
+use Rattle.languages.specs.Transcripts.{Printed}
 use Rattle.script.specs.Plans.{plan_of}
-use Rattle.transcripts.specs.Transcripts.{Printed}
+use Rattle.transcripts.specs.Transcripts.{Lines}
 use Rattle.transcripts.proofs.transcript.Given as goal
 
-abbrev pub invariant-loop-told : goal.invariant-loop-told
-invariant-loop-told l = Printed (map plan_of l.yielded) (string_bytes l.out)
+abbrev pub invariant-loop-scenario : goal.invariant-loop-scenario
+invariant-loop-scenario l = Printed Lines (map plan_of l.yielded) (string_bytes l.out)

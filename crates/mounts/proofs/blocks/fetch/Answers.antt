@@ -6,7 +6,7 @@ use Rattle.mounts.proofs.blocks.fetch.Goals as goal
 pub returns-then-is_new-clause-calls : goal.returns-then-is_new-clause-calls
 returns-then-is_new-clause-calls g c =
     let is : c.args.is_new ≡ true = search rules in
-    rw is (one_read g.S.Store.does _ _ no_check _ _ _ c.read.result c.read.ensures.exact)
+    rw is (one_read g.S.Store.does _ _ no_check _ _ _ c.read.result (search rules) c.read.ensures.exact)
 
 pub returns-clause-calls : goal.returns-clause-calls
 returns-clause-calls g c =

@@ -5,9 +5,8 @@ use Rattle.stores.specs.Meanings.{whole}
 use Rattle.sampling.specs.Answers.{refusal}
 use Rattle.layouts.specs.Heads.{head_fields}
 use Rattle.cards.specs.Cards.{entry_block}
-use Rattle.cards.specs.Verdicts.{previous, entry_check}
-use Rattle.cards.specs.Progress.{right_slot}
-use Rattle.cards.proofs.Entries.{entry_refused, entry_taken}
+use Rattle.cards.specs.Verdicts.{previous, right_slot, entry_check}
+use Rattle.cards.proofs.Entries.{work_next, entry_refused, entry_taken}
 use Rattle.mounts.specs.Reads.{no_check, entry_reads}
 use Rattle.mounts.proofs.ReadCalls.{reads_failed, reads_answered}
 use Rattle.mounts.proofs.logs.read_entry.Goals as goal
@@ -25,7 +24,7 @@ returns-in_err-slot-clause-outcome g c = λ card holds within log.
     let h = head_fields c.args.head.now in
     let i = c.args.position in
     let p = err_from_is_err_and c.from_residual-in_err-slot.result c.from_residual-in_err-slot.ensures.1 in
-    let fetched = c.in_ok-fetch.ensures.outcome card holds.shows (search rules) (search rules) in
+    let fetched = c.in_ok-fetch.ensures.outcome card holds.shows (search rules) (λ old. rw c.entry_block-block.ensures (work_next h card i c.args.log.now.work log.block (λ at. absurd (search rules)))) in
     let block : card (entry_block h i) ≡ whole c.fetch.new.buffer = search rules in
     let none : right_slot wrong h (previous h card i) c.decode-entry.result ≡ None = search rules in
     let is : c.in_err-slot.field-0.0 ≡ refusal BadEntry i = search rules in
@@ -38,7 +37,7 @@ returns-in_err-slot-clause-calls g c = λ card holds within log.
     let h = head_fields c.args.head.now in
     let i = c.args.position in
     let p = err_from_is_err_and c.from_residual-in_err-slot.result c.from_residual-in_err-slot.ensures.1 in
-    let fetched = c.in_ok-fetch.ensures.outcome card holds.shows (search rules) (search rules) in
+    let fetched = c.in_ok-fetch.ensures.outcome card holds.shows (search rules) (λ old. rw c.entry_block-block.ensures (work_next h card i c.args.log.now.work log.block (λ at. absurd (search rules)))) in
     let block : card (entry_block h i) ≡ whole c.fetch.new.buffer = search rules in
     let none : right_slot wrong h (previous h card i) c.decode-entry.result ≡ None = search rules in
     let is : c.in_err-slot.field-0.0 ≡ refusal BadEntry i = search rules in
@@ -56,7 +55,7 @@ returns-clause-outcome g c = λ card holds within log.
     let wrong = g.K.RecordKind.wrong in
     let h = head_fields c.args.head.now in
     let i = c.args.position in
-    let fetched = c.in_ok-fetch.ensures.outcome card holds.shows (search rules) (search rules) in
+    let fetched = c.in_ok-fetch.ensures.outcome card holds.shows (search rules) (λ old. rw c.entry_block-block.ensures (work_next h card i c.args.log.now.work log.block (λ at. absurd (search rules)))) in
     let block : card (entry_block h i) ≡ whole c.fetch.new.buffer = search rules in
     let some : right_slot wrong h (previous h card i) c.decode-entry.result ≡ Some c.in_ok-slot.slot = search rules in
     let bound : c.in_ok-slot.slot < 672 = search rules in

@@ -13,7 +13,7 @@ use Rattle.mounts.proofs.logs.read_log.Goals as goal
 pub loop-position-init : goal.loop-position-init
 loop-position-init g c = record {
   calls = λ card holds. each_begun g.S.Store.does (entry_check g.S.Store.own g.K.RecordKind.wrong (head_fields c.args.head.now) card) (entry_reads (head_fields c.args.head.now)) (g.S.Store.state c.args.store.now);
-  outcome = λ card holds. (same_refl (g.S.Store.meaning (g.S.Store.state c.args.store.now)), log_none g.S.Store.own g.K.RecordKind.wrong (head_fields c.args.head.now) card _);
+  outcome = λ card holds. (same_refl (g.S.Store.meaning (g.S.Store.state c.args.store.now)), log_none g.S.Store.own g.K.RecordKind.wrong (head_fields c.args.head.now) card);
 }
 
 pub loop-position-preserved : goal.loop-position-preserved

@@ -2,8 +2,8 @@ use Rattle.stores.specs.Meanings.{Same}
 use Rattle.layouts.specs.Heads.{head_fields}
 use Rattle.cards.specs.Cards.{Card}
 use Rattle.cards.specs.Verdicts.{each, entry_check}
-use Rattle.mounts.specs.Parts.{Holds, LogHas}
-use Rattle.mounts.specs.Reads.{each_reads, entry_reads, no_check, Checked}
+use Rattle.mounts.specs.Parts.{ShowsWithRoom, LogHas}
+use Rattle.mounts.specs.Reads.{each_reads, entry_reads, no_check, ReadsFor}
 use Rattle.mounts.proofs.logs.read_log.Given as goal
 
 abbrev pub invariant-loop-position : goal.invariant-loop-position
@@ -13,7 +13,7 @@ invariant-loop-position g l =
     let h = head_fields l.head in
     let checks = λ (card : Card). entry_check g.S.Store.own g.K.RecordKind.wrong h card in
     record {
-      calls : (card : Card) → Holds (g.S.Store.meaning s) h card
-          → Checked g.S.Store.does s (each_reads (checks card) (entry_reads h) l.position) (each (checks card) l.position) no_check t;
-      outcome : (card : Card) → Holds (g.S.Store.meaning s) h card → Same (g.S.Store.meaning s) (g.S.Store.meaning t) × LogHas g.S.Store.own g.K.RecordKind.wrong h card l.position l.log;
+      calls : (card : Card) → ShowsWithRoom (g.S.Store.meaning s) h card
+          → ReadsFor g.S.Store.does s (each_reads (checks card) (entry_reads h) l.position) (each (checks card) l.position) no_check t;
+      outcome : (card : Card) → ShowsWithRoom (g.S.Store.meaning s) h card → Same (g.S.Store.meaning s) (g.S.Store.meaning t) × LogHas g.S.Store.own g.K.RecordKind.wrong h card l.position l.log;
     }

@@ -7,7 +7,7 @@ use Rattle.nights.proofs.playing.on_store.Goals as goal
 
 pub loop-night-init : goal.loop-night-init
 loop-night-init g c = record {
-  went = λ so. rw (c.in_ok-answers.ensures.items, c.new-asleep.ensures) (no_nights _ _, so);
+  went = λ so. rw (c.in_ok-outcomes.ensures.items, c.new-asleep.ensures) (no_nights _ _, so);
   room = search rules;
   count = search rules;
 }

@@ -1,9 +1,9 @@
 use Rattle.std.proofs.Common.{arith}
 use Rattle.std.proofs.lemmas.Result.{IfOk-weaker}
-use Rattle.laws.specs.Setups.{LawfulSetup}
+use Rattle.laws.proofs.Given.{LawfulSetup}
 use Rattle.runs.specs.Runs.{setup}
 use Rattle.script.specs.Plans.{night_plan}
-use Rattle.nights.proofs.Nights.{spoiled}
+use Rattle.nights.proofs.Nights.{refused_night}
 use Rattle.nights.proofs.playing.play_night.Given as given
 use Rattle.nights.proofs.playing.play_night.Goals as goal
 
@@ -27,5 +27,5 @@ returns-in-Ok g c =
 
 pub returns-in-Err : goal.returns-in-Err
 returns-in-Err g c = λ so.
-    spoiled _ (lawful g) c.args.asleep c.format.new.self (night_plan c.args.night.now) c.in-Err.fault
+    refused_night _ (lawful g) c.args.asleep c.format.new.self (night_plan c.args.night.now) c.in-Err.fault
     (record { seeded = omega arith; sound = so; outcome = c.in-Err.ensures.outcome; steadily = c.in-Err.ensures.sound })

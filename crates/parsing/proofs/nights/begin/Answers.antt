@@ -8,11 +8,11 @@ use Rattle.parsing.proofs.nights.begin.Goals as goal
 
 pub returns-then-not-sleeps : goal.returns-then-not-sleeps
 returns-then-not-sleeps g c =
-    let same = sleeps_shown g.K.Given.fields c.args.nights.now.items in
+    let same = sleeps_shown g.K.FromWords.fields c.args.nights.now.items in
     search rules
 
 pub returns : goal.returns
 returns g c =
     let read : read_format (texts c.args.words.now) ≡ Ok (c.in_ok-size.size, c.in_ok-size.log_blocks, c.in_ok-size.seed) = search rules in
     let asleep : sleeps (map night_plan c.args.nights.now.items) ≡ true = search rules in
-    rw (read, c.in_ok-push.ensures.items) (one_begun g.K.Given.fields c.args.nights.now.items _ asleep c.new.ensures.items)
+    rw (read, c.in_ok-push.ensures.items) (one_begun g.K.FromWords.fields c.args.nights.now.items _ asleep c.new.ensures.items)

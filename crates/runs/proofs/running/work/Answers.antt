@@ -1,7 +1,7 @@
-use Rattle.std.proofs.Common.{◌≡◌, ℕ, ◌≤◌, List, length, take, rules, refl, ap, subst, ◌∙◌, arith}
+use Rattle.std.proofs.Common.{◌≡◌, ℕ, length, take, rules, ap, subst, ◌∙◌, arith}
 use Rattle.std.proofs.lemmas.List.{take_more}
 use Rattle.std.proofs.Math.Seq.{take-length}
-use Rattle.laws.specs.Setups.{LawfulSetup}
+use Rattle.laws.proofs.Given.{LawfulSetup}
 use Rattle.laws.proofs.Formatting.{format_law}
 use Rattle.laws.proofs.Runs.{LawSoFar, law_begins, law_more, law_stands}
 use Rattle.laws.specs.declared.stages.Stage.TheVariants.{Sleeping}

@@ -1,7 +1,7 @@
 use Rattle.std.proofs.Common.{◌≡◌, List, [], ◌++◌, map, drop, vec_items}
 use Rattle.records.specs.Offsets.{Fields}
 use Rattle.scenarios.specs.Replies.{replies}
-use Rattle.scenarios.specs.Worked.{KeepsFields, said}
+use Rattle.scenarios.specs.Answering.{KeepsFields, said}
 use Rattle.scenarios.proofs.working.work.Given as goal
 
 abbrev pub invariant-loop-command : goal.invariant-loop-command

@@ -1,6 +1,6 @@
 use Rattle.std.proofs.Common.{map, take}
 use Rattle.std.specs.Fmt.{HasWritten, IsPlainFormatter}
-use Rattle.scenarios.specs.Worked.{row_of}
+use Rattle.scenarios.specs.Answering.{row_of}
 use Rattle.printing.specs.Lines.{rows_text}
 use Rattle.printing.proofs.lines.RowsDisplay.fmt.Given as goal
 

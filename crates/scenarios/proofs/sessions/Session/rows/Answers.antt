@@ -3,7 +3,7 @@ use Rattle.std.proofs.lemmas.Iterator.{items_from_collect, YieldsList-from_range
 use Rattle.std.proofs.lemmas.Iterator.Consumers.{YieldsList-from_filter_map}
 use Rattle.std.proofs.lemmas.Result.{IfOk-weaker}
 use Rattle.sampling.specs.Answers.{slot_answer}
-use Rattle.scenarios.specs.Worked.{row_of}
+use Rattle.scenarios.specs.Answering.{row_of}
 use Rattle.scenarios.proofs.Rows.{row_answered, rows_answered}
 use Rattle.scenarios.proofs.sessions.Session.rows.Goals as goal
 

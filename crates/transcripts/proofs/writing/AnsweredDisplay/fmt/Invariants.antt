@@ -2,7 +2,7 @@ use Rattle.std.proofs.Common.{◌++◌, codes}
 use Rattle.std.specs.Fmt.{HasWritten, IsPlainFormatter}
 use Rattle.std.specs.List.{flat_map}
 use Rattle.printing.specs.Lines.{reply_text}
-use Rattle.scenarios.specs.Worked.{said}
+use Rattle.scenarios.specs.Answering.{said}
 use Rattle.transcripts.proofs.writing.AnsweredDisplay.fmt.Given as goal
 
 abbrev pub invariant-loop-command : goal.invariant-loop-command

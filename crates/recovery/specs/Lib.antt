@@ -1,6 +1,0 @@
-pub mod Frames
-pub mod Tellings
-pub mod Recoveries
-pub mod Stages
-pub mod Opens
-pub mod Laws
