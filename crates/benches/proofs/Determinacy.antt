@@ -1,5 +1,5 @@
 -- A bench says one thing to each call. Assumes nothing.
-use Rattle.std.proofs.Common.{◌≡◌, sym, ◌∙◌}
+use Rattle.std.proofs.Common.{sym, ◌∙◌}
 use Rattle.stores.specs.Calls.{Determined}
 use Rattle.benches.specs.Benches.{bench_does}
 

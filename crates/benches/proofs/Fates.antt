@@ -1,5 +1,5 @@
 -- What a restart leaves at each block. Assumes nothing.
-use Rattle.std.proofs.Common.{◌≡◌, ℕ, zero, suc, ◌+◌, ◌*◌, ◌%◌, ◌≤◌, eqb, ◌⊎◌, List, length, get_or, Option, None, Some, slice_get, sym, refl, ◌∙◌, subst, inl, inr, ⊎_elim, arith}
+use Rattle.std.proofs.Common.{◌≡◌, ℕ, zero, suc, ◌+◌, ◌*◌, ◌%◌, ◌≤◌, eqb, ◌⊎◌, List, [], length, get_or, Option, None, Some, slice_get, sym, refl, ◌∙◌, subst, inl, inr, ⊎_elim, arith}
 use Rattle.std.proofs.lemmas.Bool.{cases_eq, cond_both, eqb-false}
 use Rattle.stores.specs.Meanings.{Content, whole}
 use Rattle.benches.specs.declared.held.Held.{Held}
@@ -85,3 +85,8 @@ restarted hs p q i e =
     let n = blocks_in (length p.mem) in
     let F : Pass → Type 0 = λ r. Fated p.mem r.mem hs n in
     subst F (sym e) (fated hs p n n i (omega arith) (omega arith))
+
+-- where nothing is held, a pass changes nothing
+pub passed_none : (p : Pass) (n : ℕ) → passed [] p n ≡ p
+passed_none p zero = refl
+passed_none p (suc b) = passed_none p b

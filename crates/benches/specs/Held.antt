@@ -73,6 +73,11 @@ held_of b bs = held_if b bs (length bs == 504) refl
 abbrev pub Inside : ℕ → List Held → Type 0
 Inside len held = (i : ℕ) → i < length held → 505 * (slice_index_or held i blank).block + 505 ≤ len
 
+-- what always holds of the held writes of a bench with so many bytes: they are sixteen at most, each of a block in the memory
+pub record HeldIn (len : ℕ) (held : List Held) : Type 0 where
+  pub few : length held ≤ 16
+  pub inside : Inside len held
+
 -- a block reads its last held write, or else what is settled; after a cut that, any held write of it or torn may stand
 abbrev pub bench_meaning : Power → List ℕ → List Held → Meaning
 bench_meaning power mem held =

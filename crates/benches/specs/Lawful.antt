@@ -57,7 +57,7 @@ seen_length n x bs true l e = let s : bs ≡ x = cc in ap length s ∙ l
 seen_length n x bs false l e = cc
 
 -- what is settled at a block in the memory is torn or 504 bytes
-content_length : (m bs : List ℕ) (b : ℕ) → 505 * b + 505 ≤ length m → whole bs ≡ content m b → length bs ≡ 504
+pub content_length : (m bs : List ℕ) (b : ℕ) → 505 * b + 505 ≤ length m → whole bs ≡ content m b → length bs ≡ 504
 content_length m bs b f e =
     let x = take 504 (drop (505 * b) m) in
     let l : length x ≡ 504 = simp (length-take, length-drop) (omega arith) in

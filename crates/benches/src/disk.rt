@@ -143,12 +143,17 @@ impl Disk {
         (usize::from(choice) % (writes + 2)).checked_sub(1)
     }
 
-    // Decides what stands at each block, and holds nothing after it.
+    // Decides what stands at each block, and holds nothing after it. Where nothing is held, each block stays as it is and
+    // none is looked at.
     pub(crate) fn restart(&mut self, choices: &mut VecDeque<u8>)
         ensures pass { ◌≡◌ {A = Pass} (record { mem = self.new.bytes.items; left = choices.new.items }) (passed self.old.held.items (record { mem = self.old.bytes.items; left = choices.old.items }) (blocks_in (length self.old.bytes.items))) }
         ensures held { self.new.held.items ≡ [] }
+        ensures long { length self.new.bytes.items ≡ length self.old.bytes.items }
         ensures allocation { allocation_of self.new.bytes ≡ allocation_of self.old.bytes }
     {
+        if self.held.is_empty() {
+            return;
+        }
         for b in 0..self.size() { // b up to size - 1
             if let Some(number) = self.chosen(b, choices) {
                 let write = nth(&self.held, b, number);

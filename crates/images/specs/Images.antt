@@ -26,15 +26,19 @@ memory_after (Err e) memory b bytes = memory
 abbrev pub blocks_in : ℕ → ℕ
 blocks_in n = blocks_of 504 n
 
--- an image settles each write, is never torn, and its supply lasts
-abbrev pub image_meaning : Bool → List ℕ → Meaning
-image_meaning on bytes = record {
-  size = blocks_in (length bytes);
+-- a memory that is used as so many blocks: each write is settled, none is torn, and the supply lasts
+abbrev pub sized_meaning : ℕ → Bool → List ℕ → Meaning
+sized_meaning blocks on bytes = record {
+  size = blocks;
   on = on;
   reads = λ b. whole (block bytes b);
   stands = λ b c. c ≡ whole (block bytes b);
   lasts = true;
 }
+
+-- an image has as many blocks as fit in its memory
+abbrev pub image_meaning : Bool → List ℕ → Meaning
+image_meaning on bytes = sized_meaning (blocks_in (length bytes)) on bytes
 
 -- what an image has: its memory, and whether it is on
 pub record View : Type 0 where

@@ -1,6 +1,8 @@
 -- What a mirror's calls make of the store below: which calls they make there, in which order, and what is said up.
 -- Assumes nothing.
 use Rattle.std.specs.Prelude.{◌≡◌, ℕ, zero, suc, ◌+◌, true, false, cond, List, [], ◌∷◌, length, replicate, Some, None, Ok, Err, Option, Result}
+use Rattle.std.specs.Borrow.{Bor}
+use Rattle.std.specs.Option.{option_copied}
 use Rattle.std.specs.Str.{bytes_eq}
 use Rattle.faults.specs.Refusals.{fault}
 use Rattle.faults.specs.declared.faults.Fault.{Fault}
@@ -27,6 +29,11 @@ unless_torn other e = Err e
 abbrev pub copy_of : Answer → List ℕ → Copy
 copy_of (Ok done) bytes = Ok (Some bytes)
 copy_of (Err e) bytes = unless_torn e.reason e
+
+-- what is known of a copy whose bytes lie in a buffer that was lent for them
+abbrev pub lent : Result (Option (Bor (List ℕ))) Fault → Copy
+lent (Ok found) = Ok (option_copied found)
+lent (Err e) = Err e
 
 -- a block is written and settled
 abbrev pub storing : ℕ → List ℕ → List Call

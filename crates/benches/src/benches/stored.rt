@@ -1,4 +1,4 @@
-ghost use Rattle.std.specs.Prelude.{◌≡◌, ℕ, false};
+ghost use Rattle.std.specs.Prelude.{◌≡◌, ℕ, false, length};
 ghost use Rattle.std.specs.Global.{Vec};
 ghost use Rattle.faults.specs.declared.faults.Layer.TheVariants.{Device};
 ghost use Rattle.stores.specs.Meanings.{Steadily};
@@ -6,6 +6,7 @@ ghost use Rattle.stores.specs.Outcomes.{ReadOutcome, WriteOutcome, FlushOutcome,
 ghost use Rattle.stores.specs.Calls.{reads, writes, flushes, restarts, response};
 ghost use Rattle.benches.specs.Benches.{meaning_of, bench_response, bench_does, Made};
 ghost use Rattle.benches.specs.Views.{Contents, contents_of, allocation_of};
+ghost use Rattle.benches.specs.Held.{HeldIn};
 ghost use Rattle.benches.specs.Lawful.{bench_lawful};
 
 use crate::benches::{Bench, Given};
@@ -72,7 +73,10 @@ impl Store for Bench {
 
     ghost lawful = { λ s. bench_lawful s.power s.mem s.held };
 
-    fn size(&self) -> u32 {
+    fn size(&self) -> u32
+        ensures value { result ≡ (meaning_of (contents_of self.now)).size }
+        ensures held { HeldIn (length self.now.mem) self.now.held }
+    {
         self.disk.size()
     }
 
@@ -81,6 +85,8 @@ impl Store for Bench {
         ensures sound { Steadily false (meaning_of (contents_of self.old)) (meaning_of (contents_of self.new)) }
         ensures exact { record { answer = result; buffer = buf.new; next = contents_of self.new } ≡ bench_response (contents_of self.old) (reads block buf.old) }
         ensures allocation { self.new.allocation ≡ self.old.allocation }
+        ensures long { length self.new.mem ≡ length self.old.mem }
+        ensures held { HeldIn (length self.new.mem) self.new.held }
     {
         let on = self.supply.is_on();
         admit(Layer::Device, self.size(), on, block, buf.len())?;
@@ -95,6 +101,8 @@ impl Store for Bench {
         ensures sound { Steadily false (meaning_of (contents_of self.old)) (meaning_of (contents_of self.new)) }
         ensures exact { response result (contents_of self.new) ≡ bench_response (contents_of self.old) (writes block bytes.now) }
         ensures allocation { self.new.allocation ≡ self.old.allocation }
+        ensures long { length self.new.mem ≡ length self.old.mem }
+        ensures held { HeldIn (length self.new.mem) self.new.held }
     {
         let on = self.supply.is_on();
         admit(Layer::Device, self.size(), on, block, bytes.len())?;
@@ -108,6 +116,8 @@ impl Store for Bench {
         ensures sound { Steadily false (meaning_of (contents_of self.old)) (meaning_of (contents_of self.new)) }
         ensures exact { response result (contents_of self.new) ≡ bench_response (contents_of self.old) flushes }
         ensures allocation { self.new.allocation ≡ self.old.allocation }
+        ensures long { length self.new.mem ≡ length self.old.mem }
+        ensures held { HeldIn (length self.new.mem) self.new.held }
     {
         self.supply.spend()?;
         self.disk.settle();
@@ -119,6 +129,8 @@ impl Store for Bench {
         ensures sound { Steadily false (meaning_of (contents_of self.old)) (meaning_of (contents_of self.new)) }
         ensures exact { response result (contents_of self.new) ≡ bench_response (contents_of self.old) restarts }
         ensures allocation { self.new.allocation ≡ self.old.allocation }
+        ensures long { length self.new.mem ≡ length self.old.mem }
+        ensures held { HeldIn (length self.new.mem) self.new.held }
     {
         self.disk.restart(&mut self.choices);
         self.supply.start();

@@ -1,8 +1,8 @@
-ghost use Rattle.std.specs.Prelude.{◌≡◌, ◌<◌, true};
+ghost use Rattle.std.specs.Prelude.{◌≡◌, ◌<◌, true, replicate};
 ghost use Rattle.stores.specs.Meanings.{Settled};
 ghost use Rattle.mirrors.specs.Mirrors.{half};
 ghost use Rattle.stores.specs.Calls.{InOrder};
-ghost use Rattle.mirrors.specs.Below.{storing, Probes, ReadsCopies, Repairs, Mends};
+ghost use Rattle.mirrors.specs.Below.{storing, lent, Probes, ReadsCopies, Repairs, Mends};
 ghost use Rattle.mirrors.specs.Repairs.{Ready, StoreOutcome, Probed, Twins, Both, RepairOutcome, MendOutcome};
 
 use faults::{Fault, Reason};
@@ -24,14 +24,19 @@ pub(crate) fn put<S: Store>(below: &mut S, block: u32, bytes: &[u8]) -> Result<(
     below.flush()
 }
 
-// What a block reads: its bytes, or none if it is torn.
-fn probe<S: Store>(below: &mut S, block: u32) -> Result<Option<[u8; BLOCK_BYTES]>, Fault>
-    ensures outcome { block < (S.Store.meaning (S.Store.state below.old)).size → (S.Store.meaning (S.Store.state below.old)).on ≡ true → Probed S.Store.source (S.Store.meaning (S.Store.state below.old)) (S.Store.meaning (S.Store.state below.new)) block result }
-    ensures exact { Probes S.Store.does block (S.Store.state below.old) result (S.Store.state below.new) }
+// What a block reads, into a buffer that is zero: its bytes there, or none if it is torn. The buffer is lent, since an array
+// that is handed back is copied at each step on the way.
+fn probe<'a, S: Store>(
+    below: &mut S,
+    block: u32,
+    buf: &'a mut [u8; BLOCK_BYTES],
+) -> Result<Option<&'a [u8; BLOCK_BYTES]>, Fault>
+    requires { buf.old ≡ replicate 504 0 }
+    ensures outcome { block < (S.Store.meaning (S.Store.state below.old)).size → (S.Store.meaning (S.Store.state below.old)).on ≡ true → Probed S.Store.source (S.Store.meaning (S.Store.state below.old)) (S.Store.meaning (S.Store.state below.new)) block (lent result) }
+    ensures exact { Probes S.Store.does block (S.Store.state below.old) (lent result) (S.Store.state below.new) }
 {
-    let mut bytes = [0u8; BLOCK_BYTES];
-    match below.read(block, &mut bytes) {
-        Ok(()) => Ok(Some(bytes)),
+    match below.read(block, buf) {
+        Ok(()) => Ok(Some(buf)),
         Err(
             Fault {
                 reason: Reason::Torn,
@@ -52,9 +57,13 @@ pub(crate) fn probe_both<S: Store>(
     ensures outcome { Twins (S.Store.meaning (S.Store.state below.old)) first second → Both S.Store.source (S.Store.meaning (S.Store.state below.old)) (S.Store.meaning (S.Store.state below.new)) first second result }
     ensures exact { ReadsCopies S.Store.does first second (S.Store.state below.old) result (S.Store.state below.new) }
 {
-    match probe(below, first)? {
-        Some(bytes) => Ok(Some(bytes)),
-        None => probe(below, second),
+    let mut one = [0u8; BLOCK_BYTES];
+    match probe(below, first, &mut one)? {
+        Some(bytes) => Ok(Some(*bytes)),
+        None => {
+            let mut two = [0u8; BLOCK_BYTES];
+            Ok(probe(below, second, &mut two)?.copied())
+        }
     }
 }
 
@@ -65,11 +74,16 @@ fn repair<S: Store>(below: &mut S, first: u32, second: u32) -> Result<(), Fault>
     ensures outcome { Twins (S.Store.meaning (S.Store.state below.old)) first second → RepairOutcome S.Store.source (S.Store.meaning (S.Store.state below.old)) (S.Store.meaning (S.Store.state below.new)) first second result }
     ensures exact { Repairs S.Store.does first second (S.Store.state below.old) result (S.Store.state below.new) }
 {
-    match (probe(below, first)?, probe(below, second)?) {
+    let mut one = [0u8; BLOCK_BYTES];
+    let mut two = [0u8; BLOCK_BYTES];
+    match (
+        probe(below, first, &mut one)?,
+        probe(below, second, &mut two)?,
+    ) {
         (Some(one), Some(two)) if one == two => Ok(()),
-        (Some(one), Some(_)) => put(below, second, &one),
-        (Some(one), None) => put(below, second, &one),
-        (None, Some(two)) => put(below, first, &two),
+        (Some(one), Some(_)) => put(below, second, one),
+        (Some(one), None) => put(below, second, one),
+        (None, Some(two)) => put(below, first, two),
         (None, None) => Ok(()),
     }
 }

@@ -1,7 +1,10 @@
 ghost use Rattle.std.specs.Prelude.{◌≡◌, true, false, refl};
 ghost use Rattle.faults.specs.declared.faults.Layer.TheVariants.{Mirror as MirrorLayer};
-ghost use Rattle.mirrors.specs.Mirrors.{half, mirror_meaning};
-ghost use Rattle.mirrors.specs.Views.{View};
+ghost use Rattle.stores.specs.Calls.{reads, writes, flushes, restarts, response};
+ghost use Rattle.stores.specs.Meanings.{Steadily};
+ghost use Rattle.stores.specs.Outcomes.{ReadOutcome, WriteOutcome, FlushOutcome, RestartOutcome};
+ghost use Rattle.mirrors.specs.Mirrors.{half, mirror_meaning, Paired};
+ghost use Rattle.mirrors.specs.Views.{View, state_of};
 ghost use Rattle.mirrors.specs.Below.{mirror_does};
 ghost use Rattle.mirrors.specs.Laws.{mirror_lawful};
 
@@ -20,7 +23,8 @@ impl<S: Store> Mirror<S> {
 
     // The store below, as the last call left it. A method as std's `into_inner`, of which no From can give every S.
     pub fn into_below(self) -> S
-        ensures { result ≡ self.below }
+        ensures below { result ≡ self.below }
+        ensures paired { self.on ≡ true → Paired (S.Store.meaning (S.Store.state result)) }
     {
         let Mirror { below, .. } = self;
         below
@@ -29,10 +33,12 @@ impl<S: Store> Mirror<S> {
 
 // Each call turns the mirror off, works below with `?`, and turns it on. No function does that around a closure: it
 // would have to say of any work what it leaves below, which is longer than the two lines.
+// The trait's clauses stand again in each call, since a call that promises more has to repeat them: what is true of a
+// mirror that is on is its type's own, which a caller cannot see there.
 impl<S: Store> Store for Mirror<S> {
     ghost State = { View S.Store.State };
 
-    ghost state = { λ s. record { below = S.Store.state s.below; on = s.on } };
+    ghost state = { state_of S.Store.state };
 
     ghost meaning = { λ s. mirror_meaning s.on (S.Store.meaning s.below) };
 
@@ -50,7 +56,12 @@ impl<S: Store> Store for Mirror<S> {
         half(&self.below)
     }
 
-    fn read(&mut self, block: u32, buf: &mut [u8]) -> Result<(), Fault> {
+    fn read(&mut self, block: u32, buf: &mut [u8]) -> Result<(), Fault>
+        ensures outcome { ReadOutcome 504 MirrorLayer S.Store.source (mirror_meaning self.old.on (S.Store.meaning (S.Store.state self.old.below))) (mirror_meaning self.new.on (S.Store.meaning (S.Store.state self.new.below))) block buf.old buf.new result }
+        ensures sound { Steadily true (mirror_meaning self.old.on (S.Store.meaning (S.Store.state self.old.below))) (mirror_meaning self.new.on (S.Store.meaning (S.Store.state self.new.below))) }
+        ensures exact { mirror_does S.Store.meaning S.Store.does (state_of S.Store.state self.old) (reads block buf.old) (record { answer = result; buffer = buf.new; next = state_of S.Store.state self.new }) }
+        ensures paired { self.new.on ≡ true → Paired (S.Store.meaning (S.Store.state self.new.below)) }
+    {
         let half = half(&self.below);
         admit(Layer::Mirror, half, self.on, block, buf.len())?;
         // Off until the copies are read, so that a fault on the way leaves the mirror off.
@@ -61,7 +72,12 @@ impl<S: Store> Store for Mirror<S> {
         Ok(())
     }
 
-    fn write(&mut self, block: u32, bytes: &[u8]) -> Result<(), Fault> {
+    fn write(&mut self, block: u32, bytes: &[u8]) -> Result<(), Fault>
+        ensures outcome { WriteOutcome 504 MirrorLayer S.Store.source (mirror_meaning self.old.on (S.Store.meaning (S.Store.state self.old.below))) (mirror_meaning self.new.on (S.Store.meaning (S.Store.state self.new.below))) block bytes.now result }
+        ensures sound { Steadily true (mirror_meaning self.old.on (S.Store.meaning (S.Store.state self.old.below))) (mirror_meaning self.new.on (S.Store.meaning (S.Store.state self.new.below))) }
+        ensures exact { mirror_does S.Store.meaning S.Store.does (state_of S.Store.state self.old) (writes block bytes.now) (response result (state_of S.Store.state self.new)) }
+        ensures paired { self.new.on ≡ true → Paired (S.Store.meaning (S.Store.state self.new.below)) }
+    {
         let half = half(&self.below);
         admit(Layer::Mirror, half, self.on, block, bytes.len())?;
         // Off until both copies are settled, so that a fault on the way leaves the mirror off.
@@ -72,7 +88,12 @@ impl<S: Store> Store for Mirror<S> {
         Ok(())
     }
 
-    fn flush(&mut self) -> Result<(), Fault> {
+    fn flush(&mut self) -> Result<(), Fault>
+        ensures outcome { FlushOutcome MirrorLayer S.Store.source (mirror_meaning self.old.on (S.Store.meaning (S.Store.state self.old.below))) (mirror_meaning self.new.on (S.Store.meaning (S.Store.state self.new.below))) result }
+        ensures sound { Steadily true (mirror_meaning self.old.on (S.Store.meaning (S.Store.state self.old.below))) (mirror_meaning self.new.on (S.Store.meaning (S.Store.state self.new.below))) }
+        ensures exact { mirror_does S.Store.meaning S.Store.does (state_of S.Store.state self.old) flushes (response result (state_of S.Store.state self.new)) }
+        ensures paired { self.new.on ≡ true → Paired (S.Store.meaning (S.Store.state self.new.below)) }
+    {
         powered(Layer::Mirror, self.on)?;
         self.on = false;
         self.below.flush()?;
@@ -80,7 +101,12 @@ impl<S: Store> Store for Mirror<S> {
         Ok(())
     }
 
-    fn restart(&mut self) -> Result<(), Fault> {
+    fn restart(&mut self) -> Result<(), Fault>
+        ensures outcome { RestartOutcome S.Store.source (mirror_meaning self.old.on (S.Store.meaning (S.Store.state self.old.below))) (mirror_meaning self.new.on (S.Store.meaning (S.Store.state self.new.below))) result }
+        ensures sound { Steadily true (mirror_meaning self.old.on (S.Store.meaning (S.Store.state self.old.below))) (mirror_meaning self.new.on (S.Store.meaning (S.Store.state self.new.below))) }
+        ensures exact { mirror_does S.Store.meaning S.Store.does (state_of S.Store.state self.old) restarts (response result (state_of S.Store.state self.new)) }
+        ensures paired { self.new.on ≡ true → Paired (S.Store.meaning (S.Store.state self.new.below)) }
+    {
         self.on = false;
         self.below.restart()?;
         mend(&mut self.below)?;
